@@ -4,7 +4,7 @@ use Rattle.conf_text.specs.FaultTexts.{kind_text}
 use Rattle.store_steps.specs.DamageTexts.{damage_text}
 use Rattle.program_host.specs.Statuses.{line, line_of}
 use Rattle.program_host.specs.declared.status.Status.{Status}
-use Rattle.program_host.specs.declared.status.Status.TheVariants.{Done, Usage, Config, HostFault, Damaged, NoMemory, Strayed}
+use Rattle.program_host.specs.declared.status.Status.TheVariants.{Done, Usage, Config, HostFault, Damaged, NoMemory, Strayed, JobFailed}
 
 ended : (text : List ℕ) → 0 < length (line text)
 ended text = omega (arith, length-append text (10 ∷ []))
@@ -17,3 +17,4 @@ has_line HostFault other = ended (codes "searchd: host fault")
 has_line (Damaged index file place kind) other = ended (codes "searchd: index " ++ index ++ codes ": file " ++ decimal file ++ codes " at " ++ decimal place ++ codes ": " ++ damage_text kind)
 has_line NoMemory other = ended (codes "searchd: out of memory")
 has_line (Strayed index strayed) other = ended (codes "searchd: index " ++ index ++ codes ": history strayed")
+has_line JobFailed other = ended (codes "searchd: job failed")

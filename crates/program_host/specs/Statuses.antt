@@ -6,7 +6,7 @@ use Rattle.srch_base.specs.declared.faults.OpenFault.{OpenFault}
 use Rattle.srch_base.specs.declared.faults.OpenFault.TheVariants as opening
 use Rattle.store_steps.specs.DamageTexts.{damage_text}
 use Rattle.program_host.specs.declared.status.Status.{Status}
-use Rattle.program_host.specs.declared.status.Status.TheVariants.{Done, Usage, Config, HostFault, Damaged, NoMemory, Strayed}
+use Rattle.program_host.specs.declared.status.Status.TheVariants.{Done, Usage, Config, HostFault, Damaged, NoMemory, Strayed, JobFailed}
 
 -- a line of text, with the LF at its end
 abbrev pub line : List ℕ → List ℕ
@@ -33,6 +33,7 @@ shown (Damaged index file place kind) =
     record { code = 5; printed = line (codes "searchd: index " ++ index ++ codes ": file " ++ decimal file ++ codes " at " ++ decimal place ++ codes ": " ++ damage_text kind) }
 shown NoMemory = record { code = 6; printed = line (codes "searchd: out of memory") }
 shown (Strayed index strayed) = record { code = 7; printed = strayed_line index }
+shown JobFailed = record { code = 8; printed = line (codes "searchd: job failed") }
 
 -- the exit status
 abbrev pub code_of : Status → ℕ

@@ -42,6 +42,9 @@ pub enum Status {
         index: Name,
         strayed: Strayed,
     },
+    /// A job of a selftest failed: FLUSH or OPTIMIZE was refused, or it didn't leave one chunk. Another job overtook it or came behind
+    /// it, or a limit leaves no room; no cause of it is known here.
+    JobFailed,
 }
 
 impl Status {
@@ -59,6 +62,7 @@ impl Status {
             Status::Damaged { .. } => (5, b"searchd: index "),
             Status::NoMemory => (6, b"searchd: out of memory\n"),
             Status::Strayed { .. } => (7, b"searchd: index "),
+            Status::JobFailed => (8, b"searchd: job failed\n"),
         }
     }
 
@@ -85,7 +89,11 @@ impl Status {
                 kind,
             } => put_damage(&mut line, index, *file, *place, *kind),
             Status::Strayed { index, strayed: _ } => put_strayed(&mut line, index),
-            Status::Done | Status::Usage | Status::HostFault | Status::NoMemory => {}
+            Status::Done
+            | Status::Usage
+            | Status::HostFault
+            | Status::NoMemory
+            | Status::JobFailed => {}
         }
         line
     }

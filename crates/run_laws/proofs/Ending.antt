@@ -28,7 +28,7 @@ use Rattle.program_host.specs.Texts.{AreReadOf, Texts}
 use Rattle.program_host.specs.declared.host.Host.{Ghosts as HostWords}
 use Rattle.program_host.specs.declared.requests.Request.{Request}
 use Rattle.program_host.specs.declared.status.Status.{Status}
-use Rattle.program_host.specs.declared.status.Status.TheVariants.{Config, Damaged, Done, HostFault, NoMemory, Strayed, Usage}
+use Rattle.program_host.specs.declared.status.Status.TheVariants.{Config, Damaged, Done, HostFault, JobFailed, NoMemory, Strayed, Usage}
 use Rattle.searchd_top.specs.Checks.{AreOpen, ChecksIndexes, Holdings, SaysUngiven, SaysUnopened, Stops, StopsAt}
 use Rattle.searchd_top.specs.Deeds.{Count, Deeds}
 use Rattle.searchd_top.specs.Output.{SaysLines}
@@ -54,6 +54,22 @@ last_has : {X : Type 0} (P : X → Type 0) (xs : List X) (x : X) → All P (xs +
 last_has P [] x all = first_has P x [] all
 last_has P (y ∷ xs) x all = last_has P xs x (rest_have P y (xs ++ x ∷ []) all)
 
+-- ---- ends
+
+-- a run ends well, of whatever mode
+abbrev Well : Status → Type 0
+Well = EndsWell None
+
+well_in : (mode : Option Mode) (status : Status) → Well status → EndsWell mode status
+well_in mode Done well = tt
+well_in mode NoMemory well = tt
+well_in mode (Strayed index numbers) well = tt
+well_in mode JobFailed well = absurd well
+well_in mode Usage well = absurd well
+well_in mode (Config line kind) well = absurd well
+well_in mode HostFault well = absurd well
+well_in mode (Damaged index file place kind) well = absurd well
+
 -- ---- what was refused
 
 never_faulty : (only : (text : List ℕ) (conf : Conf) (fault : ConfFault) → IsConfOf text conf → IsFaultOf text fault → ⊥) (text : Option (List ℕ)) (bytes : List ℕ) (fault : ConfFault) → IsConfiguration text → AreReadOf text MAX_CONF_BYTES bytes → IsFaultOf bytes fault → ⊥
@@ -61,7 +77,7 @@ never_faulty only None bytes fault is read faulty = is
 never_faulty only (Some text) bytes fault is read faulty = only (take (MAX_CONF_BYTES + 1) text) is.0 fault is.1 (subst (λ (b : List ℕ). IsFaultOf b fault) read faulty)
 
 module _ (only : (text : List ℕ) (conf : Conf) (fault : ConfFault) → IsConfOf text conf → IsFaultOf text fault → ⊥) (texts : Texts) (mode : Option Mode) (asked : IsWellAsked texts mode) where
-  refused_well : (status : Status) (requests : List Request) (faults : Count) → IsCalm faults → SaysRefused texts mode status requests faults → EndsWell status
+  refused_well : (status : Status) (requests : List Request) (faults : Count) → IsCalm faults → SaysRefused texts mode status requests faults → Well status
   refused_well Usage requests faults calm says = asked.asks says.0
   refused_well (Config line kind) requests faults calm says = never_faulty only (texts says.0) says.2.bytes (record { line = line; kind = kind }) (asked.conf says.0 says.1) says.2.read says.2.is
   refused_well HostFault requests faults calm says = calm says.3
@@ -69,6 +85,7 @@ module _ (only : (text : List ℕ) (conf : Conf) (fault : ConfFault) → IsConfO
   refused_well Done requests faults calm says = absurd says
   refused_well (Damaged index file place kind) requests faults calm says = absurd says
   refused_well (Strayed index numbers) requests faults calm says = absurd says
+  refused_well JobFailed requests faults calm says = absurd says
 
 -- ---- stores
 
@@ -77,7 +94,7 @@ open_long store [] [] [] are = refl
 open_long store (index ∷ indexes) (lent ∷ stores) (has ∷ holdings) are = ap suc (open_long store indexes stores holdings are.1)
 open_long store indexes stores holdings are = absurd are
 
-ungiven_well : (status : Status) (faults : Count) → IsCalm faults → SaysUngiven status faults → EndsWell status
+ungiven_well : (status : Status) (faults : Count) → IsCalm faults → SaysUngiven status faults → Well status
 ungiven_well HostFault faults calm says = calm says
 ungiven_well NoMemory faults calm says = tt
 ungiven_well Done faults calm says = absurd says
@@ -85,8 +102,9 @@ ungiven_well Usage faults calm says = absurd says
 ungiven_well (Config line kind) faults calm says = absurd says
 ungiven_well (Damaged index file place kind) faults calm says = absurd says
 ungiven_well (Strayed index numbers) faults calm says = absurd says
+ungiven_well JobFailed faults calm says = absurd says
 
-unopened_well : {S : Type 0} (store : DiskWords S) (index : IndexConf) (lent : Lent S) (status : Status) → (Rose (store.faults lent.given) (store.faults lent.back) → ⊥) → IsUndamaged store index.schema lent.given → SaysUnopened store index lent status → EndsWell status
+unopened_well : {S : Type 0} (store : DiskWords S) (index : IndexConf) (lent : Lent S) (status : Status) → (Rose (store.faults lent.given) (store.faults lent.back) → ⊥) → IsUndamaged store index.schema lent.given → SaysUnopened store index lent status → Well status
 unopened_well store index lent HostFault calm good says = calm says
 unopened_well store index lent (Damaged name file place kind) calm good says = good.good (record { file = file; place = place; kind = kind }) (says.1 good.image good.told)
 unopened_well store index lent NoMemory calm good says = tt
@@ -94,10 +112,11 @@ unopened_well store index lent Done calm good says = absurd says
 unopened_well store index lent Usage calm good says = absurd says
 unopened_well store index lent (Config line kind) calm good says = absurd says
 unopened_well store index lent (Strayed name numbers) calm good says = absurd says
+unopened_well store index lent JobFailed calm good says = absurd says
 
 module _ {S D K : Type 0} (store : DiskWords S) (door : DoorWords D K) (link : LinkWords K) (indexes : List IndexConf) (deeds : Deeds S D) (nothing : NothingFails store door deeds) (good : AreUndamaged store indexes deeds) where
   stopped_by : (before after : List IndexConf) (index : IndexConf) (opened : List (Lent S)) (holdings : List Holdings) (last : List (Lent S)) (status : Status) → indexes ≡ before ++ index ∷ after → AreOpen store before opened holdings → deeds.stores ≡ opened ++ last
-      → Stops store index last status deeds.faults → EndsWell status
+      → Stops store index last status deeds.faults → Well status
   stopped_by before after index opened holdings [] status are opens stores stops = ungiven_well status deeds.faults nothing.host stops
   stopped_by before after index opened holdings (lent ∷ []) status are opens stores stops =
       let here : slice_get indexes (length before) ≡ Some index = ap (λ (is : List IndexConf). slice_get is (length before)) are ∙ get_behind before after index in
@@ -106,7 +125,7 @@ module _ {S D K : Type 0} (store : DiskWords S) (door : DoorWords D K) (link : L
       (good.each (length before) index lent here there) stops.1
   stopped_by before after index opened holdings (lent ∷ other ∷ more) status are opens stores stops = absurd stops
 
-  stopped_well : (requests : List Request) (status : Status) → StopsAt store indexes requests status deeds → EndsWell status
+  stopped_well : (requests : List Request) (status : Status) → StopsAt store indexes requests status deeds → Well status
   stopped_well requests status at = stopped_by at.before at.after at.index at.opened at.holdings at.last status at.are at.opens at.stores at.stops
 
   -- ---- doors
@@ -133,29 +152,30 @@ module _ {S D K : Type 0} (store : DiskWords S) (door : DoorWords D K) (link : L
 
   -- ---- serving
 
-  unless_well : (status : Status) → EndsWell status → EndsWell (unless_decided status)
+  unless_well : (status : Status) → Well status → Well (unless_decided status)
   unless_well Done well = tt
   unless_well NoMemory well = tt
   unless_well (Strayed index numbers) well = tt
+  unless_well JobFailed well = absurd well
   unless_well Usage well = absurd well
   unless_well (Config line kind) well = absurd well
   unless_well HostFault well = absurd well
   unless_well (Damaged index file place kind) well = absurd well
 
-  ends_well : (confs : List IndexConf) (answers : List (Result (Unit {0}) (Or Numbers))) → EndsWell (status_of_ends confs answers)
+  ends_well : (confs : List IndexConf) (answers : List (Result (Unit {0}) (Or Numbers))) → Well (status_of_ends confs answers)
   ends_well [] answers = tt
   ends_well (index ∷ confs) [] = tt
   ends_well (index ∷ confs) (Ok done ∷ answers) = ends_well confs answers
   ends_well (index ∷ confs) (Err (causes.Fault strayed) ∷ answers) = tt
   ends_well (index ∷ confs) (Err causes.NoMemory ∷ answers) = unless_well (status_of_ends confs answers) (ends_well confs answers)
 
-  worked_well : (plan : Plan) (requests : List Request) (opened : _) (status : Status) → HaveWorked store door link indexes plan requests opened status deeds → EndsWell status
+  worked_well : (plan : Plan) (requests : List Request) (opened : _) (status : Status) → HaveWorked store door link indexes plan requests opened status deeds → Well status
   worked_well plan requests opened status worked =
       let none = none_failed worked.schema worked.base indexes (length worked.seats) plan.sessions 1 worked.served.services worked.served.left worked.seats worked.left deeds.doors worked.served.works worked.sat worked.stood nothing.doors in
       let answers = map (λ end. end.answer) worked.ended in
-      subst EndsWell (sym (worked.says ∙ ap (λ (b : Bool). status_after b (status_of_ends indexes answers)) none)) (ends_well indexes answers)
+      subst Well (sym (worked.says ∙ ap (λ (b : Bool). status_after b (status_of_ends indexes answers)) none)) (ends_well indexes answers)
 
-  idle_says : (requests : List Request) (status : Status) → SaysIdle requests status deeds → EndsWell status
+  idle_says : (requests : List Request) (status : Status) → SaysIdle requests status deeds → Well status
   idle_says requests HostFault says = nothing.host says.1
   idle_says requests NoMemory says = tt
   idle_says requests Done says = absurd says
@@ -163,15 +183,16 @@ module _ {S D K : Type 0} (store : DiskWords S) (door : DoorWords D K) (link : L
   idle_says requests (Config line kind) says = absurd says
   idle_says requests (Damaged index file place kind) says = absurd says
   idle_says requests (Strayed index numbers) says = absurd says
+  idle_says requests JobFailed says = absurd says
 
-  served_well : (plan : Plan) (requests : List Request) (status : Status) → ServesIndexes store door link indexes plan requests status deeds → EndsWell status
+  served_well : (plan : Plan) (requests : List Request) (status : Status) → ServesIndexes store door link indexes plan requests status deeds → Well status
   served_well plan requests status serves =
       ⊎_elim (λ opens. ⊎_elim (λ worked. worked_well plan requests opens.opened status worked) (λ idle. idle_says requests status idle.says) opens.goes)
       (λ stops. stopped_well _ status stops.stops) serves.serves
 
   -- ---- what is printed
 
-  lines_well : (status : Status) (lines : List ℕ) → SaysLines status lines deeds.output deeds.print_faults → EndsWell status
+  lines_well : (status : Status) (lines : List ℕ) → SaysLines status lines deeds.output deeds.print_faults → Well status
   lines_well Done lines says = tt
   lines_well HostFault lines says = nothing.prints says.1
   lines_well NoMemory lines says = tt
@@ -179,23 +200,25 @@ module _ {S D K : Type 0} (store : DiskWords S) (door : DoorWords D K) (link : L
   lines_well (Config line kind) lines says = absurd says
   lines_well (Damaged index file place kind) lines says = absurd says
   lines_well (Strayed index numbers) lines says = absurd says
+  lines_well JobFailed lines says = absurd says
 
-  checked_well : (requests : List Request) (status : Status) → ChecksIndexes store indexes requests status deeds → EndsWell status
+  checked_well : (requests : List Request) (status : Status) → ChecksIndexes store indexes requests status deeds → Well status
   checked_well requests status checks = ⊎_elim (λ all. lines_well status _ all.says) (λ stops. stopped_well requests status stops) checks.checks
 
-  selftest_says : (number docs : ℕ) (status : Status) → SaysSelftest number docs status deeds.output deeds.print_faults → EndsWell status
+  selftest_says : (number docs : ℕ) (status : Status) → SaysSelftest number docs status deeds.output deeds.print_faults → EndsWell (Some (selftest number docs)) status
   selftest_says number docs (Strayed index numbers) says = tt
+  selftest_says number docs JobFailed says = tt
   selftest_says number docs NoMemory says = tt
   selftest_says number docs Done says = tt
-  selftest_says number docs Usage says = lines_well Usage says.0 says.2
-  selftest_says number docs (Config line kind) says = lines_well (Config line kind) says.0 says.2
-  selftest_says number docs HostFault says = lines_well HostFault says.0 says.2
-  selftest_says number docs (Damaged index file place kind) says = lines_well (Damaged index file place kind) says.0 says.2
+  selftest_says number docs Usage says = well_in (Some (selftest number docs)) Usage (lines_well Usage says.0 says.2)
+  selftest_says number docs (Config line kind) says = well_in (Some (selftest number docs)) (Config line kind) (lines_well (Config line kind) says.0 says.2)
+  selftest_says number docs HostFault says = well_in (Some (selftest number docs)) HostFault (lines_well HostFault says.0 says.2)
+  selftest_says number docs (Damaged index file place kind) says = well_in (Some (selftest number docs)) (Damaged index file place kind) (lines_well (Damaged index file place kind) says.0 says.2)
 
-  works_well : (mode : Option Mode) (status : Status) → Works store door link mode indexes status deeds → EndsWell status
-  works_well (Some (session file)) status works = served_well _ _ status works
-  works_well (Some (serve file listen workers sessions)) status works = served_well _ _ status works
-  works_well (Some (check file)) status works = checked_well _ status works
+  works_well : (mode : Option Mode) (status : Status) → Works store door link mode indexes status deeds → EndsWell mode status
+  works_well (Some (session file)) status works = well_in _ status (served_well _ _ status works)
+  works_well (Some (serve file listen workers sessions)) status works = well_in _ status (served_well _ _ status works)
+  works_well (Some (check file)) status works = well_in _ status (checked_well _ status works)
   works_well (Some (selftest number docs)) status works = selftest_says number docs status works.says
   works_well None status works = absurd works
 
@@ -205,8 +228,8 @@ fails_later : {S D K : Type 0} (store : DiskWords S) (door : DoorWords D K) (dee
 fails_later store door deeds requests nothing = record { host = nothing.host; prints = nothing.prints; stores = nothing.stores; doors = nothing.doors }
 
 module _ {H S D K : Type 0} (only : (text : List ℕ) (conf : Conf) (fault : ConfFault) → IsConfOf text conf → IsFaultOf text fault → ⊥) (host : HostWords H S D K) (store : DiskWords S) (door : DoorWords D K) (link : LinkWords K) where
-  pub run_well : (mode : Option Mode) (status : Status) (old new : H) → Runs host store door link mode status old new → IsWellAsked (host.text old) mode → IsGoodRun host store door mode old new → EndsWell status
+  pub run_well : (mode : Option Mode) (status : Status) (old new : H) → Runs host store door link mode status old new → IsWellAsked (host.text old) mode → IsGoodRun host store door mode old new → EndsWell mode status
   run_well mode status old new (deeds, does, outcome) asked good =
       let nothing = good.nothing deeds does in
-      ⊎_elim (λ refused. refused_well only (host.text old) mode asked status deeds.requests deeds.faults nothing.host refused.says)
+      ⊎_elim (λ refused. well_in mode status (refused_well only (host.text old) mode asked status deeds.requests deeds.faults nothing.host refused.says))
       (λ work. works_well store door link work.indexes (record deeds { requests = work.later }) (fails_later store door deeds work.later nothing) (record { each = (good.undamaged deeds work.indexes does work.are).each }) mode status work.works) outcome

@@ -4,7 +4,7 @@ use Rattle.srch_base.specs.Counts.{Rose}
 use Rattle.srch_base.specs.declared.door.Door.{Ghosts as DoorWords}
 use Rattle.chunk_store.specs.Images.{Image}
 use Rattle.chunk_store.specs.declared.disk.Disk.{Ghosts as DiskWords}
-use Rattle.command_line.specs.Modes.{Mode}
+use Rattle.command_line.specs.Modes.{Mode, selftest}
 use Rattle.conf_text.specs.Confs.{IsConfOf}
 use Rattle.conf_text.specs.declared.size.TheConstants.{MAX_CONF_BYTES}
 use Rattle.doc_types.specs.declared.schema.Schema.{Schema}
@@ -16,7 +16,7 @@ use Rattle.program_host.specs.Lending.{Lent}
 use Rattle.program_host.specs.Texts.{Texts}
 use Rattle.program_host.specs.declared.host.Host.{Ghosts as HostWords}
 use Rattle.program_host.specs.declared.status.Status.{Status}
-use Rattle.program_host.specs.declared.status.Status.TheVariants.{Config, Damaged, Done, HostFault, NoMemory, Strayed, Usage}
+use Rattle.program_host.specs.declared.status.Status.TheVariants.{Config, Damaged, Done, HostFault, JobFailed, NoMemory, Strayed, Usage}
 use Rattle.searchd_top.specs.CommandLine.{file_of}
 use Rattle.searchd_top.specs.Configuring.{AreIndexes}
 use Rattle.searchd_top.specs.Deeds.{Count, Deeds, Does, HasRisen}
@@ -57,12 +57,19 @@ pub record IsGoodRun {H S D K : Type 0} (host : HostWords H S D K) (store : Disk
   pub nothing : (deeds : Deeds S D) → Does host old new deeds → NothingFails store door deeds
   pub undamaged : (deeds : Deeds S D) (indexes : List IndexConf) → Does host old new deeds → AreIndexes (host.text old) (file_of mode) indexes → AreUndamaged store indexes deeds
 
--- A run ends well that is done, or to which memory was refused, or of which an index's history strayed.
-abbrev pub EndsWell : Status → Type 0
-EndsWell Done = ⊤
-EndsWell NoMemory = ⊤
-EndsWell (Strayed index numbers) = ⊤
-EndsWell Usage = ⊥
-EndsWell (Config line kind) = ⊥
-EndsWell HostFault = ⊥
-EndsWell (Damaged index file place kind) = ⊥
+-- the mode is a selftest
+abbrev pub IsSelftest : Option Mode → Type 0
+IsSelftest (Some (selftest number docs)) = ⊤
+IsSelftest mode = ⊥
+
+-- A run of a mode ends well that is done, or to which memory was refused, or of which an index's history strayed; and a selftest of which a
+-- job failed.
+abbrev pub EndsWell : Option Mode → Status → Type 0
+EndsWell mode Done = ⊤
+EndsWell mode NoMemory = ⊤
+EndsWell mode (Strayed index numbers) = ⊤
+EndsWell mode JobFailed = IsSelftest mode
+EndsWell mode Usage = ⊥
+EndsWell mode (Config line kind) = ⊥
+EndsWell mode HostFault = ⊥
+EndsWell mode (Damaged index file place kind) = ⊥

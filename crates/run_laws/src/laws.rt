@@ -51,10 +51,10 @@ pub fn a_steady_disk_has_no_fault<D: Disk, E: Door>()
 {}
 
 /// A run ends well whose words and configuration are good, whose stores have no damage, and in which neither its host nor a print, a
-/// store or a door failed: it is done, or memory was refused, or the history of an index strayed.
+/// store or a door failed: it is done, or memory was refused, or the history of an index strayed, or a job of a selftest failed.
 pub fn a_good_run_ends_well<H: Host>()
     ensures { (mode : Option Mode) (status : Status) (old new : H) → Runs H.Host H.Store.Disk H.Entry.Door H.Entry.Line.Link mode status old new
-        → IsWellAsked (H.text old) mode → IsGoodRun H.Host H.Store.Disk H.Entry.Door mode old new → EndsWell status }
+        → IsWellAsked (H.text old) mode → IsGoodRun H.Host H.Store.Disk H.Entry.Door mode old new → EndsWell mode status }
 {
     a_text_is_one_configuration();
 }

@@ -25,7 +25,7 @@ use Rattle.program_host.specs.declared.host.Stream.TheVariants.{Out}
 use Rattle.program_host.specs.declared.requests.Request.{Request}
 use Rattle.program_host.specs.declared.requests.Request.TheVariants.{OpenStore}
 use Rattle.program_host.specs.declared.status.Status.{Status}
-use Rattle.program_host.specs.declared.status.Status.TheVariants.{Done, Usage, Config, HostFault, Damaged, NoMemory, Strayed}
+use Rattle.program_host.specs.declared.status.Status.TheVariants.{Done, Usage, Config, HostFault, Damaged, NoMemory, Strayed, JobFailed}
 use Rattle.searchd_top.specs.Openings.{AreOpenedFrom, IsOpenedFrom, Leaves}
 use Rattle.searchd_top.specs.Checks.{AreOpen, ChecksIndexes, HasFiles, Holdings, IsOpen, SaysUngiven, SaysUnopened, Stops, StopsAt, check_lines}
 use Rattle.searchd_top.specs.Deeds.{Deeds, Does}
@@ -132,6 +132,7 @@ says_unopened store index given back (faults.Damaged found) status says damage c
     by HostFault is = subst (λ (s : Status). SaysUnopened store index (record { given = given; back = back }) s) (sym is) (refl, damage)
     by (Damaged name file place kind) is = subst (λ (s : Status). SaysUnopened store index (record { given = given; back = back }) s) (sym is) (refl, damage)
     by (Strayed name strayed) is = subst (λ (s : Status). SaysUnopened store index (record { given = given; back = back }) s) (sym is) (refl, damage)
+    by JobFailed is = subst (λ (s : Status). SaysUnopened store index (record { given = given; back = back }) s) (sym is) (refl, damage)
 
 module _ {H S D K : Type 0} (host : HostWords H S D K) (store : DiskWords S) where
   -- one was opened, and then the others

@@ -14,7 +14,7 @@ use Rattle.program_host.specs.declared.host.Stream.{Stream}
 use Rattle.program_host.specs.declared.host.Stream.TheVariants.{Out, Err as Errors}
 use Rattle.program_host.specs.declared.requests.Request.TheVariants.{ReadText}
 use Rattle.program_host.specs.declared.status.Status.{Status}
-use Rattle.program_host.specs.declared.status.Status.TheVariants.{Done, Usage, Config, HostFault, Damaged, NoMemory, Strayed}
+use Rattle.program_host.specs.declared.status.Status.TheVariants.{Done, Usage, Config, HostFault, Damaged, NoMemory, Strayed, JobFailed}
 use Rattle.searchd_top.specs.CommandLine.{file_of}
 use Rattle.searchd_top.specs.Configuring.{AreIndexes}
 use Rattle.searchd_top.specs.Deeds.{Count, Deeds, Does}
@@ -35,6 +35,7 @@ says_unconfigured texts mode file Done before now named c = absurd c
 says_unconfigured texts mode file Usage before now named c = absurd c
 says_unconfigured texts mode file (Damaged index number place kind) before now named c = absurd c
 says_unconfigured texts mode file (Strayed index strayed) before now named c = absurd c
+says_unconfigured texts mode file JobFailed before now named c = absurd c
 
 -- lines that were printed are those of a selftest
 says_printed : (number docs : ℕ) (status : Status) (lines output : List ℕ) (count : Count) → HasEnded number docs lines → SaysLines status lines output count → SaysSelftest number docs status output count
@@ -45,11 +46,13 @@ says_printed number docs Usage lines output count ended says = absurd says
 says_printed number docs (Config line kind) lines output count ended says = absurd says
 says_printed number docs (Damaged index file place kind) lines output count ended says = absurd says
 says_printed number docs (Strayed index strayed) lines output count ended says = absurd says
+says_printed number docs JobFailed lines output count ended says = absurd says
 
 -- a selftest without lines printed none
-says_unprinted : (number docs : ℕ) (status : Status) (before : ℕ) → IsUnprinted status → SaysSelftest number docs status [] (record { before = before; now = before })
+says_unprinted : (number docs : ℕ) (status : Status) (before : ℕ) → IsUnprinted number docs status → SaysSelftest number docs status [] (record { before = before; now = before })
 says_unprinted number docs NoMemory before unprinted = (refl, refl)
 says_unprinted number docs (Strayed index strayed) before unprinted = (unprinted, refl, refl)
+says_unprinted number docs JobFailed before unprinted = (unprinted, refl, refl)
 says_unprinted number docs Done before unprinted = absurd unprinted
 says_unprinted number docs Usage before unprinted = absurd unprinted
 says_unprinted number docs (Config line kind) before unprinted = absurd unprinted
@@ -121,7 +124,7 @@ module _ {H S D K : Type 0} (host : HostWords H S D K) (store : DiskWords S) (do
       )
 
   -- a selftest ended without its lines
-  pub runs_unprinted : (number docs : ℕ) (status : Status) (old : H) → IsUnprinted status → Runs host store door link (Some (selftest number docs)) status old old
+  pub runs_unprinted : (number docs : ℕ) (status : Status) (old : H) → IsUnprinted number docs status → Runs host store door link (Some (selftest number docs)) status old old
   runs_unprinted number docs status old unprinted = (
     asking host [] old old,
     does_asking host [] old old (asks_nothing host old),

@@ -14,7 +14,7 @@ use Rattle.program_host.specs.Lending.{Lent}
 use Rattle.program_host.specs.Statuses.{line}
 use Rattle.program_host.specs.declared.requests.Request.{Request}
 use Rattle.program_host.specs.declared.status.Status.{Status}
-use Rattle.program_host.specs.declared.status.Status.TheVariants.{Done, Usage, Config, HostFault, Damaged, NoMemory, Strayed}
+use Rattle.program_host.specs.declared.status.Status.TheVariants.{Done, Usage, Config, HostFault, Damaged, NoMemory, Strayed, JobFailed}
 use Rattle.searchd_top.specs.Deeds.{Count, Deeds, HasRisen, IsStill}
 use Rattle.searchd_top.specs.Openings.{Leaves}
 use Rattle.searchd_top.specs.Output.{SaysLines}
@@ -66,6 +66,7 @@ SaysUngiven Usage faults = ⊥
 SaysUngiven (Config number kind) faults = ⊥
 SaysUngiven (Damaged name file place kind) faults = ⊥
 SaysUngiven (Strayed name strayed) faults = ⊥
+SaysUngiven JobFailed faults = ⊥
 
 -- What it says where the store that was given for an index isn't opened: the store failed, or its files are damaged so.
 abbrev pub SaysUnopened : {S : Type 0} → DiskWords S → IndexConf → Lent S → Status → Type 0
@@ -77,6 +78,7 @@ SaysUnopened store index lent Done = ⊥
 SaysUnopened store index lent Usage = ⊥
 SaysUnopened store index lent (Config number kind) = ⊥
 SaysUnopened store index lent (Strayed name strayed) = ⊥
+SaysUnopened store index lent JobFailed = ⊥
 
 -- Why opening stopped at an index, by the store that was given for it, if one was.
 abbrev pub Stops : {S : Type 0} → DiskWords S → IndexConf → List (Lent S) → Status → Count → Type 0

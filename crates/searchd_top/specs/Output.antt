@@ -2,7 +2,7 @@
 use Rattle.std.specs.Prelude.{◌≡◌, List, [], ℕ}
 use Rattle.std.specs.Io.{StartsWith}
 use Rattle.program_host.specs.declared.status.Status.{Status}
-use Rattle.program_host.specs.declared.status.Status.TheVariants.{Done, Usage, Config, HostFault, Damaged, NoMemory, Strayed}
+use Rattle.program_host.specs.declared.status.Status.TheVariants.{Done, Usage, Config, HostFault, Damaged, NoMemory, Strayed, JobFailed}
 use Rattle.searchd_top.specs.Deeds.{Count, HasRisen, IsStill}
 
 -- They were printed; or a prefix of them, and the count of failed prints rose; or there was no memory for them, and none was.
@@ -14,3 +14,4 @@ SaysLines Usage lines output count = ⊥
 SaysLines (Config number kind) lines output count = ⊥
 SaysLines (Damaged index file place kind) lines output count = ⊥
 SaysLines (Strayed index strayed) lines output count = ⊥
+SaysLines JobFailed lines output count = ⊥

@@ -9,7 +9,7 @@ use Rattle.program_host.specs.Texts.{Texts}
 use Rattle.program_host.specs.declared.host.Host.{Ghosts as HostWords}
 use Rattle.program_host.specs.declared.requests.Request.{Request}
 use Rattle.program_host.specs.declared.status.Status.{Status}
-use Rattle.program_host.specs.declared.status.Status.TheVariants.{Done, Usage, Config, HostFault, Damaged, NoMemory, Strayed}
+use Rattle.program_host.specs.declared.status.Status.TheVariants.{Done, Usage, Config, HostFault, Damaged, NoMemory, Strayed, JobFailed}
 use Rattle.searchd_top.specs.Checks.{ChecksIndexes}
 use Rattle.searchd_top.specs.CommandLine.{file_of}
 use Rattle.searchd_top.specs.Configuring.{AreIndexes, IsMisconfigured}
@@ -38,6 +38,7 @@ SaysRefused texts mode NoMemory requests faults = (count : ℕ) × (requests ≡
 SaysRefused texts mode Done requests faults = ⊥
 SaysRefused texts mode (Damaged index file place kind) requests faults = ⊥
 SaysRefused texts mode (Strayed index strayed) requests faults = ⊥
+SaysRefused texts mode JobFailed requests faults = ⊥
 
 -- The run was refused before there was anything to work over.
 pub record IsRefused {S D : Type 0} (texts : Texts) (mode : Option Mode) (status : Status) (deeds : Deeds S D) : Type 0 where

@@ -5,9 +5,10 @@ use Rattle.chunk_store.specs.contracts.memory_disk.MemoryDiskDisk.TheImpl as mem
 use Rattle.self_test.specs.Documents.{documents_from}
 use Rattle.self_test.specs.Ends.{Ends, EndsBy}
 use Rattle.self_test.specs.Summaries.{IsSummary, lines_of}
+use Rattle.self_test.specs.declared.fault.SelftestFault.TheVariants as faults
 use Rattle.self_test.specs.declared.summary.Summary.{Summary}
 use Rattle.program_host.specs.declared.status.Status.{Status}
-use Rattle.program_host.specs.declared.status.Status.TheVariants.{Done, Usage, Config, HostFault, Damaged, NoMemory, Strayed}
+use Rattle.program_host.specs.declared.status.Status.TheVariants.{Done, Usage, Config, HostFault, Damaged, NoMemory, Strayed, JobFailed}
 use Rattle.searchd_top.specs.Deeds.{Count, Deeds, IsStill}
 use Rattle.searchd_top.specs.Output.{SaysLines}
 
@@ -20,20 +21,22 @@ pub record HasEnded (number docs : ℕ) (lines : List ℕ) : Type 0 where
   pub lines_are : lines ≡ lines_of summary
 
 -- It ended without its lines: memory was refused, or the end of its engine, which is over a disk in memory, answered that the history of
--- the index strayed.
-abbrev pub IsUnprinted : Status → Type 0
-IsUnprinted NoMemory = ⊤
-IsUnprinted (Strayed name strayed) = (name ≡ codes "t") × EndsBy memory.ghosts None (Err (causes.Fault strayed))
-IsUnprinted Done = ⊥
-IsUnprinted Usage = ⊥
-IsUnprinted (Config number kind) = ⊥
-IsUnprinted HostFault = ⊥
-IsUnprinted (Damaged index file place kind) = ⊥
+-- the index strayed; or its engine ended well, and the conversation about the documents that the number stands for came to a job that failed.
+abbrev pub IsUnprinted : ℕ → ℕ → Status → Type 0
+IsUnprinted number docs NoMemory = ⊤
+IsUnprinted number docs (Strayed name strayed) = (name ≡ codes "t") × EndsBy memory.ghosts None (Err (causes.Fault strayed))
+IsUnprinted number docs JobFailed = Ends memory.ghosts (documents_from number docs) (Err faults.JobFailed)
+IsUnprinted number docs Done = ⊥
+IsUnprinted number docs Usage = ⊥
+IsUnprinted number docs (Config line kind) = ⊥
+IsUnprinted number docs HostFault = ⊥
+IsUnprinted number docs (Damaged index file place kind) = ⊥
 
--- Its engine has ended, and its lines were printed, as the status says; or memory was refused, or the index strayed as its engine ended,
--- and none was.
+-- Its engine has ended, and its lines were printed, as the status says; or memory was refused, or the index strayed as its engine ended, or
+-- a job failed, and none was.
 abbrev pub SaysSelftest : ℕ → ℕ → Status → List ℕ → Count → Type 0
-SaysSelftest number docs (Strayed name strayed) output count = IsUnprinted (Strayed name strayed) × (output ≡ []) × IsStill count
+SaysSelftest number docs (Strayed name strayed) output count = IsUnprinted number docs (Strayed name strayed) × (output ≡ []) × IsStill count
+SaysSelftest number docs JobFailed output count = IsUnprinted number docs JobFailed × (output ≡ []) × IsStill count
 SaysSelftest number docs NoMemory output count = (output ≡ []) × IsStill count
 SaysSelftest number docs status output count = (lines : List ℕ) × HasEnded number docs lines × SaysLines status lines output count
 

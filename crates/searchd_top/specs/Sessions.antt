@@ -19,7 +19,7 @@ use Rattle.store_keep.specs.declared.opening.Opened.{Opened}
 use Rattle.program_host.specs.Lending.{back_of, given_of}
 use Rattle.program_host.specs.declared.requests.Request.{Request}
 use Rattle.program_host.specs.declared.status.Status.{Status}
-use Rattle.program_host.specs.declared.status.Status.TheVariants.{Done, Usage, Config, HostFault, Damaged, NoMemory, Strayed}
+use Rattle.program_host.specs.declared.status.Status.TheVariants.{Done, Usage, Config, HostFault, Damaged, NoMemory, Strayed, JobFailed}
 use Rattle.searchd_top.specs.Checks.{StopsAt}
 use Rattle.searchd_top.specs.Deeds.{Deeds, HasRisen, IsStill}
 use Rattle.searchd_top.specs.Openings.{AreOpenedFrom}
@@ -72,6 +72,7 @@ SaysIdle requests Usage deeds = ⊥
 SaysIdle requests (Config number kind) deeds = ⊥
 SaysIdle requests (Damaged name file place kind) deeds = ⊥
 SaysIdle requests (Strayed name strayed) deeds = ⊥
+SaysIdle requests JobFailed deeds = ⊥
 
 -- No worker began. The doors, all or none, came back as they were, and each store as it was opened, or as the end of its engine left
 -- it, with the tokens that it gave.

@@ -1,15 +1,12 @@
 //! A selftest: documents in an index in memory are asked for, and what was found is printed once the index has ended.
-ghost use Rattle.std.specs.Prelude.{◌≡◌, ◌≤◌, List, Err, Some, IfErr, IfOk, string_bytes};
+ghost use Rattle.std.specs.Prelude.{◌≡◌, ◌≤◌, Some, IfErr, IfOk, string_bytes};
 ghost use Rattle.command_line.specs.Modes.{selftest};
-ghost use Rattle.self_test.specs.Ends.{Ends};
 ghost use Rattle.self_test.specs.Summaries.{lines_of};
-ghost use Rattle.self_test.specs.declared.generator.Document.{Document};
 ghost use Rattle.program_host.specs.Statuses.{NamesIndex};
 ghost use Rattle.searchd_top.specs.Runs.{Runs};
 ghost use Rattle.searchd_top.specs.Selftests.{HasEnded, IsUnprinted};
 
 use crate::printing::print_output;
-use chunk_store::{Disk, MemoryDisk};
 use program_host::{Host, Status, Stream};
 use self_test::{SelftestFault, Summary, run_over_engine};
 use srch_base::{Name, NoMemory};
@@ -20,8 +17,8 @@ use std::thread::Threads;
 /// The name of the index that a selftest is run over.
 const INDEX: &[u8] = b"t";
 
-/// Runs a selftest over an index in memory, and prints what it says to the output. Where the history of the index strayed, or memory was
-/// refused, nothing is printed there.
+/// Runs a selftest over an index in memory, and prints what it says to the output. Where the history of the index strayed, a job failed,
+/// or memory was refused, nothing is printed there.
 pub(crate) fn run_selftest<H: Host, R: Threads + Wait>(
     rt: &R,
     alloc: Global,
@@ -51,7 +48,7 @@ fn selftest_lines<R: Threads + Wait>(
 ) -> Result<String, Status>
     requires { docs ≤ 100000 }
     ensures ended { IfOk result (λ lines. HasEnded number docs (string_bytes lines)) }
-    ensures ends { IfErr result IsUnprinted }
+    ensures ends { IfErr result (IsUnprinted number docs) }
     ensures asked { IfErr result (λ status. ¬ (status ≡ Status.Usage)) }
     ensures names { IfErr result NamesIndex }
 {
@@ -60,7 +57,12 @@ fn selftest_lines<R: Threads + Wait>(
             Ok(lines) => Ok(lines),
             Err(NoMemory) => Err(Status::NoMemory),
         },
-        Err(fault) => Err(status_of(alloc, fault)),
+        Err(SelftestFault::NoMemory) => Err(Status::NoMemory),
+        Err(SelftestFault::Strayed(strayed)) => match Name::from_slice(alloc, INDEX) {
+            Ok(index) => Err(Status::Strayed { index, strayed }),
+            Err(NoMemory) => Err(Status::NoMemory),
+        },
+        Err(SelftestFault::JobFailed) => Err(Status::JobFailed),
     }
 }
 
@@ -71,21 +73,5 @@ fn lines(alloc: Global, summary: &Summary) -> Result<String, NoMemory>
     match format!(in alloc; "{summary}") {
         Ok(lines) => Ok(lines),
         Err(_) => Err(NoMemory),
-    }
-}
-
-/// The status of a selftest that has no lines.
-fn status_of(alloc: Global, fault: SelftestFault) -> Status
-    requires { (documents : List Document) × Ends ⟦<MemoryDisk as Disk>⟧ documents (Err fault) }
-    ensures ends { IsUnprinted result }
-    ensures asked { ¬ (result ≡ Status.Usage) }
-    ensures names { NamesIndex result }
-{
-    match fault {
-        SelftestFault::NoMemory => Status::NoMemory,
-        SelftestFault::Strayed(strayed) => match Name::from_slice(alloc, INDEX) {
-            Ok(index) => Status::Strayed { index, strayed },
-            Err(NoMemory) => Status::NoMemory,
-        },
     }
 }

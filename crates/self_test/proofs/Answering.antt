@@ -15,11 +15,12 @@ use Rattle.ql_answers.specs.declared.state.State.{State}
 use Rattle.ql_session.specs.Events.{StoreWords}
 use Rattle.ql_session.specs.Statements.{States}
 use Rattle.ql_write.specs.Canonical.{canonical_text}
-use Rattle.self_test.specs.Asking.{AreDone, Asks, Ended, GoAstray, IsAstray, IsDone, IsLost, IsReplied, Made, Shows, Telling, bytes_of}
+use Rattle.self_test.specs.Asking.{AreDone, Asks, GoAstray, IsAstray, IsDone, IsLost, Shows, Telling, bytes_of}
 use Rattle.self_test.specs.Texts.{count_select}
+use Rattle.self_test.specs.declared.fault.Astray.{Astray}
 use Rattle.self_test.specs.declared.summary.Count.{Count}
-use Rattle.self_test.specs.steps.Replies.{is_err, is_err_of, stops}
-use Rattle.self_test.proofs.Codes.{not_memory, not_stop, not_unread, ok_is_read, refusal_errs, set_is_no_err, stop_unread}
+use Rattle.self_test.specs.steps.Replies.{is_err, stops}
+use Rattle.self_test.proofs.Codes.{not_stop, ok_is_read, refusal_errs, set_is_no_err, stop_unread}
 use Rattle.self_test.proofs.Finding.{Answered, HasFound, count_answered, found, one_set, refused}
 use Rattle.self_test.proofs.Replied.{Came, NotBoth, OneList, came, replied, unread}
 
@@ -32,34 +33,29 @@ module _ {D F : Type 0} (confs : D → List IndexConf) (words : StoreWords D F) 
     came_so : Came_so
     came_so = came confs words statement old new before left one_list not_both text is states bytes asks
 
-    -- what has to be replied was replied
-    done_of : (affected status : ℕ) → bytes ≡ ok_packet 1 affected status → Came_so → IsDone confs words (record { statement = statement; wanted = Made affected status }) old before new left
-    done_of affected status ok (unread none) = absurd (ok_is_read bytes affected status ok none)
-    done_of affected status ok (replied reply told same) = record { reply = reply; replied = told; wanted = sym same ∙ ok }
+    abbrev pub telling : ℕ → ℕ → Astray → Telling
+    telling affected status otherwise = record { statement = statement; affected = affected; status = status; otherwise = otherwise }
 
-    pub done : (affected status : ℕ) → bytes ≡ ok_packet 1 affected status → AreDone confs words (record { statement = statement; wanted = Made affected status } ∷ []) old before new left
-    done affected status ok = (new, left, done_of affected status ok came_so, (refl, refl))
+    -- what has to be replied was replied
+    done_of : (affected status : ℕ) (otherwise : Astray) → bytes ≡ ok_packet 1 affected status → Came_so → IsDone confs words (telling affected status otherwise) old before new left
+    done_of affected status otherwise ok (unread none) = absurd (ok_is_read bytes affected status ok none)
+    done_of affected status otherwise ok (replied reply told same) = record { reply = reply; replied = told; wanted = sym same ∙ ok }
+
+    pub done : (affected status : ℕ) (otherwise : Astray) → bytes ≡ ok_packet 1 affected status → AreDone confs words (telling affected status otherwise ∷ []) old before new left
+    done affected status otherwise ok = (new, left, done_of affected status otherwise ok came_so, (refl, refl))
 
     -- another thing was
-    astray_of : (affected status : ℕ) → bytes ≢ ok_packet 1 affected status → stops bytes ≡ false → Came_so → IsAstray confs words (record { statement = statement; wanted = Made affected status }) old before new left
-    astray_of affected status other on (unread none) = absurd (stop_unread bytes on none)
-    astray_of affected status other on (replied reply told same) = record {
+    astray_of : (affected status : ℕ) (otherwise : Astray) → bytes ≢ ok_packet 1 affected status → stops bytes ≡ false → Came_so → IsAstray confs words (telling affected status otherwise) old before new left
+    astray_of affected status otherwise other on (unread none) = absurd (stop_unread bytes on none)
+    astray_of affected status otherwise other on (replied reply told same) = record {
       reply = reply;
       replied = told;
       unwanted = λ (ok : bytes_of new reply ≡ ok_packet 1 affected status). other (same ∙ ok);
       goes_on = not_stop new reply bytes same on;
     }
 
-    pub astray : (affected status : ℕ) → bytes ≢ ok_packet 1 affected status → stops bytes ≡ false → GoAstray confs words (record { statement = statement; wanted = Made affected status } ∷ []) old before new left
-    astray affected status other on = inl (astray_of affected status other on came_so)
-
-    -- a job ended, or was refused for another reason than want of memory
-    ended_of : is_err_of 1037 bytes ≡ false → Came_so → IsDone confs words (record { statement = statement; wanted = Ended }) old before new left
-    ended_of on (unread none) = absurd (not_unread bytes on none)
-    ended_of on (replied reply told same) = record { reply = reply; replied = told; wanted = not_memory new reply bytes same on }
-
-    pub ended : is_err_of 1037 bytes ≡ false → AreDone confs words (record { statement = statement; wanted = Ended } ∷ []) old before new left
-    ended on = (new, left, ended_of on came_so, (refl, refl))
+    pub astray : (affected status : ℕ) (otherwise : Astray) → bytes ≢ ok_packet 1 affected status → stops bytes ≡ false → GoAstray confs words otherwise (telling affected status otherwise ∷ []) old before new left
+    astray affected status otherwise other on = inl (refl, astray_of affected status otherwise other on came_so)
 
   module _ (count : Count) (number : ℕ) (is : text ≡ canonical_text (statements.Select (count_select count number))) (states : States text (statements.Select (count_select count number) ∷ [])) where
     abbrev Came_select : Type 0

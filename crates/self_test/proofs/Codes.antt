@@ -76,16 +76,8 @@ either_not true q first second = absurd (first refl)
 either_not false true first second = absurd (second refl)
 either_not false false first second = refl
 
-only_false : (p : Bool) → (p ≡ true → ⊥) → p ≡ false
-only_false true never = absurd (never refl)
-only_false false never = refl
-
-pub not_unread : (bytes : List ℕ) → is_err_of 1037 bytes ≡ false → bytes ≡ packets_from 1 (payloads 0 (Fails no_memory)) → ⊥
+not_unread : (bytes : List ℕ) → is_err_of 1037 bytes ≡ false → bytes ≡ packets_from 1 (payloads 0 (Fails no_memory)) → ⊥
 not_unread bytes other unread = both_not (is_err_of 1037 bytes) (ap (is_err_of 1037) unread ∙ unread_errs) other
-
-pub not_memory : (state : State) (reply : Reply) (bytes : List ℕ) → bytes ≡ bytes_of state reply → is_err_of 1037 bytes ≡ false → has_code 1037 reply ≡ false
-not_memory state reply bytes is other =
-    only_false (has_code 1037 reply) (λ (has : has_code 1037 reply ≡ true). both_not (is_err_of 1037 bytes) (ap (is_err_of 1037) is ∙ memory_errs state reply has) other)
 
 pub not_stop : (state : State) (reply : Reply) (bytes : List ℕ) → bytes ≡ bytes_of state reply → stops bytes ≡ false → is_stop reply ≡ false
 not_stop state reply bytes is other =

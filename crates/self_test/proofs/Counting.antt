@@ -1,6 +1,7 @@
 -- What a selftest's SELECTs find, where the end of its engine was well: none is lost, and their sums are those of the documents that were
 -- written.
-use Rattle.std.proofs.Common.{◌≡◌, ◌≤◌, ℕ, zero, suc, List, [], ◌∷◌, length, refl, sym, subst, arith, inl, inr}
+use Rattle.std.proofs.Common.{◌≡◌, ◌≤◌, ℕ, zero, suc, List, [], ◌∷◌, length, refl, sym, subst, ◌∙◌, arith, inl, inr}
+use Rattle.std.proofs.lemmas.List.{length-map}
 use Rattle.doc_types.specs.Rows.{rows_of}
 use Rattle.doc_types.specs.Snapshots.{all_living, live}
 use Rattle.doc_types.specs.declared.documents.DocRow.{DocRow}
@@ -13,26 +14,35 @@ use Rattle.ql_answers.specs.declared.state.State.{State}
 use Rattle.ql_session.specs.Events.{Event, Read, StoreWords}
 use Rattle.ql_session.specs.Machines.{FollowAll}
 use Rattle.step_book.specs.Fronts.{FrontValue}
-use Rattle.step_history.specs.History.{Base, Step}
+use Rattle.step_history.specs.History.{Base, Step, chunks_for}
 use Rattle.engine_tables.specs.Workers.{WorkerValue, by_tokens, documents_of}
 use Rattle.self_test.specs.Asking.{AreCounted, Leads}
-use Rattle.self_test.specs.Conversations.{ComesAstray, Converses, Counts, LosesOne, LosesSome, Sums, of_groups, of_pairs, of_words}
+use Rattle.self_test.specs.Conversations.{ComesAstray, Converses, Counts, LosesOne, LosesSome, Sums, merged_chunks, of_groups, of_pairs, of_words}
 use Rattle.self_test.specs.Findings.{FindsRows}
 use Rattle.self_test.specs.Own.{IsEmpty, IsOurs}
 use Rattle.self_test.specs.Summaries.{AreCounts, FindUpTo, FindsIn, IsSummary, many}
 use Rattle.self_test.specs.Texts.{count_select}
+use Rattle.self_test.specs.declared.fault.Astray.TheVariants.{Unexpected}
 use Rattle.self_test.specs.declared.generator.Document.{Document}
 use Rattle.self_test.specs.declared.summary.Count.{Count}
 use Rattle.self_test.specs.declared.summary.Count.TheVariants.{Words, Pairs, Groups}
 use Rattle.self_test.specs.declared.summary.Summary.{Summary}
 use Rattle.self_test.proofs.Ending.{IsOver, first_worker, front_rows, never_astray, written}
+use Rattle.self_test.proofs.Inserting.{docs_of}
 use Rattle.self_test.proofs.Leading.{leads_none, leads_then, read_leads}
 use Rattle.self_test.proofs.Losing.{Laws, below_fifty}
 use Rattle.self_test.proofs.Lost.{lost_never}
 use Rattle.self_test.proofs.Reading.{small_read, small_stored}
 use Rattle.self_test.proofs.Seated.{Moves}
 use Rattle.self_test.proofs.Served.{same_served}
-use Rattle.self_test.proofs.Standing.{AreDrawn, Rests, rests_read}
+use Rattle.self_test.proofs.Standing.{AreDrawn, Rests, long_stored, rests_read}
+
+-- what OPTIMIZE leaves of so many documents is what a job leaves of their rows
+chunks_same : (documents : List Document) (rows : List DocRow) → length rows ≡ length documents → merged_chunks (length documents) ≡ chunks_for rows
+chunks_same [] [] long = refl
+chunks_same [] (row ∷ rows) long = absurd (omega (arith, long))
+chunks_same (document ∷ documents) [] long = absurd (omega (arith, long))
+chunks_same (document ∷ documents) (row ∷ rows) long = refl
 
 module _ {D F : Type 0} (confs : D → List IndexConf) (words : StoreWords D F) where
   -- what was counted leads on
@@ -140,8 +150,9 @@ module _ (laws : Laws) (schema : ℕ → Schema) (base : ℕ → Base) (history 
         find_all count sum old new before after rests counts leads = find_up count (many count) sum old new before after leads.events rests counts leads.follows
 
       -- so what was found is a summary
-      sums_so : (summary : Summary) (state : State) (between : WorkerValue) → Rests conf known list documents between → Sums confs_of store (length documents) summary state between left → IsSummary documents summary
-      sums_so summary state between rests sums =
+      sums_so : (summary : Summary) (state : State) (between : WorkerValue) → Rests conf known list documents between → Sums confs_of store (length documents) summary state between left → summary.chunks ≡ merged_chunks (length documents)
+          → IsSummary documents summary
+      sums_so summary state between rests sums merged =
           let (first, one, of_first, (second, two, of_second, of_third)) = sums.counts in
           let at_one : Rests conf known list documents one = rests_count known list Words summary.words state first between one rests of_first in
           let at_two : Rests conf known list documents two = rests_count known list Pairs summary.pairs first second one two at_one of_second in
@@ -159,9 +170,7 @@ module _ (laws : Laws) (schema : ℕ → Schema) (base : ℕ → Base) (history 
             words = find_all ended Words summary.words state first between one rests of_first pairs;
             pairs = find_all ended Pairs summary.pairs first second one two at_one of_second groups;
             groups = find_all ended Groups summary.groups second sums.state two sums.between at_two of_third chunks;
-            snapshot = documents_of base sums.sees.front;
-            has = last_rows sums.between 0 sums.sees.front at_three sums.sees.reads;
-            chunks = sums.sees.counted;
+            chunks = merged ∙ chunks_same documents list (sym (length-map list (λ (row : DocRow). row.doc)) ∙ long_stored conf 0 documents (docs_of list) rests.are);
           }
 
     -- what a conversation found is a summary of its documents
@@ -169,10 +178,10 @@ module _ (laws : Laws) (schema : ℕ → Schema) (base : ℕ → Base) (history 
     found_so summary converses =
         let leads : Leads confs_of store converses.between left = sums_lead confs_of store (length documents) summary converses.state converses.between left converses.sums in
         let stands = written schema base history conf ours.own empty documents drawn few left over converses.state converses.between leads.events converses.done leads.follows in
-        sums_so stands.known stands.list summary converses.state converses.between stands.rests converses.sums
+        sums_so stands.known stands.list summary converses.state converses.between stands.rests converses.sums converses.merged
 
-    -- and none goes astray
-    pub astray_never : ComesAstray confs_of store documents (first_worker conf) left → ⊥
+    -- and none goes astray but for a job
+    pub astray_never : ComesAstray confs_of store documents Unexpected (first_worker conf) left → ⊥
     astray_never (inl (state, gone)) = never_astray schema base history conf ours.own empty documents drawn few left over state left [] gone refl
     astray_never (inr (state, between, done, lose)) =
         let leads : Leads confs_of store between left = loses_lead confs_of store state between left lose in

@@ -120,7 +120,7 @@ module _ (schema : ℕ → Schema) (base : ℕ → Base) where
 
   astray_seat : (history : List Step) (tellings : List Telling) (old new : State) (before left : WorkerValue) → Seat before → GoSomeAstray schema base history tellings old before new left → Seat left
   astray_seat history [] old new before left seat gone = absurd gone
-  astray_seat history (telling ∷ tellings) old new before left seat (inl one) = (one_led schema base before left one.replied.told.event seat one.replied.told.follows).seat
+  astray_seat history (telling ∷ tellings) old new before left seat (inl (same, one)) = (one_led schema base before left one.replied.told.event seat one.replied.told.follows).seat
   astray_seat history (telling ∷ tellings) old new before left seat (inr (mid, between, one, rest)) =
       astray_seat history tellings mid new between left (one_led schema base before between one.replied.told.event seat one.replied.told.follows).seat rest
 
@@ -134,7 +134,7 @@ module _ (schema : ℕ → Schema) (base : ℕ → Base) (history : List Step) (
       let ahead = ahead_before schema base history between left seat (all_led schema base between left events seat follows) over.ahead in
       script_done schema base history conf is over.own empty [] [] false (loading documents) documents (loading_script documents drawn few) new_state state (first_worker conf) between (first_stands conf) done ahead
 
-  -- no statement that writes them goes astray
+  -- no statement that writes them goes astray but a job
   pub never_astray : (state : State) (between : WorkerValue) (events : List (Event FrontValue)) → GoSomeAstray schema base history (loading documents) new_state (first_worker conf) state between
       → FollowAll (Moves schema base) between events left → ⊥
   never_astray state between events gone follows =

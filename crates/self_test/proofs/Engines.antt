@@ -24,14 +24,16 @@ use Rattle.engine_tables.specs.declared.ended.Ended.{Ended}
 use Rattle.self_test.specs.Asking.{Leads}
 use Rattle.self_test.specs.Conversations.{ConversesOr}
 use Rattle.self_test.specs.Documents.{after_document, documents_from}
-use Rattle.self_test.specs.Ends.{Ends, EndsBy, Found, HasFound, IsOver, Works, first_tokens}
+use Rattle.self_test.specs.Ends.{Ends, EndsBy, Found, HasFound, IsOver, LeadsTo, Works, first_tokens}
 use Rattle.self_test.specs.Own.{IsEmpty}
 use Rattle.self_test.specs.Summaries.{IsSummary}
 use Rattle.self_test.specs.declared.generator.Document.{Document}
+use Rattle.self_test.specs.declared.fault.Astray.{Astray}
+use Rattle.self_test.specs.declared.fault.Astray.TheVariants.{JobFailed}
 use Rattle.self_test.specs.declared.fault.SelftestFault.{SelftestFault}
-use Rattle.self_test.specs.declared.fault.SelftestFault.TheVariants.{NoMemory, Strayed as HasStrayed}
+use Rattle.self_test.specs.declared.fault.SelftestFault.TheVariants.{NoMemory, JobFailed as FailsJob, Strayed as HasStrayed}
 use Rattle.self_test.specs.declared.summary.Summary.{Summary}
-use Rattle.self_test.specs.steps.Engines.{IsAnswered, IsNeverAstray, IsReady, LeadsTo}
+use Rattle.self_test.specs.steps.Engines.{IsAnswered, IsNeverAstray, IsReady}
 use Rattle.self_test.specs.steps.Servable.{IsServable}
 use Rattle.self_test.proofs.Begun.{closed_well}
 use Rattle.self_test.proofs.Counting.{astray_never, found_so}
@@ -65,7 +67,7 @@ first_last seats front last first is one =
     cc (here, there)
 
 -- what a worker with these tokens came to is what its conversation came to, which left others
-pub found_by : {E : Type 0} (schema : ℕ → Schema) (base : ℕ → Base) (confs : List IndexConf) (documents : List Document) (result : Result Summary (Or E)) (first left : TokensValue) (old new : WorkerValue)
+pub found_by : (schema : ℕ → Schema) (base : ℕ → Base) (confs : List IndexConf) (documents : List Document) (result : Result Summary (Or Astray)) (first left : TokensValue) (old new : WorkerValue)
     → old ≡ record { confs = confs; tokens = first } → new.confs ≡ confs → new.tokens ≡ left → ConversesOr (λ (worker : WorkerValue). worker.confs) (by_tokens schema base) documents result old new
     → LeadsTo schema base confs documents result first left
 found_by schema base confs documents result first left old new begun same leaves comes =
@@ -180,7 +182,7 @@ module _ {D : Type 0} (words : DiskWords D) where
       (closed_well words schema base opened 0 1 (told_at 0 (left ∷ [])) (tokens_at 0 (left ∷ [])) one.disk note new
       (subst (λ (end : Result (Unit {0}) (Or Strayed)). Closes words schema base opened 0 1 (told_at 0 (left ∷ [])) (tokens_at 0 (left ∷ [])) one.disk note end new) well closes))
 
-  module _ {J E : Type 0} (laws : Laws) (schema : ℕ → Schema) (base : ℕ → Base) (opened : ℕ → AtOpening) (confs : List IndexConf) (number docs : ℕ) (left : TokensValue) (all : List (Ended D J)) (one : Ended D J) (found : Result Summary (Or E))
+  module _ {J : Type 0} (laws : Laws) (schema : ℕ → Schema) (base : ℕ → Base) (opened : ℕ → AtOpening) (confs : List IndexConf) (number docs : ℕ) (left : TokensValue) (all : List (Ended D J)) (one : Ended D J) (found : Result Summary (Or Astray))
       (over : IsOver words schema base opened confs) (few : docs ≤ 100000) (works : Works schema base confs first_tokens left) (leads : LeadsTo schema base confs (documents_from number docs) found first_tokens left)
       (ended : HaveEnded words schema base opened 1 1 (left ∷ []) all) (at : slice_get all 0 ≡ Some one) where
     abbrev documents : List Document
@@ -195,23 +197,24 @@ module _ {D : Type 0} (words : DiskWords D) where
     led : ConversesOr (λ (worker : WorkerValue). worker.confs) (by_tokens schema base) documents found (first_worker over.index) (record { confs = over.index ∷ []; tokens = left })
     led = subst (λ (list : List IndexConf). ConversesOr (λ (worker : WorkerValue). worker.confs) (by_tokens schema base) documents found (record { confs = list; tokens = first_tokens }) (record { confs = list; tokens = left })) over.is leads
 
-    by_found : (result : Result Summary (Or E)) → ConversesOr (λ (worker : WorkerValue). worker.confs) (by_tokens schema base) documents result (first_worker over.index) (record { confs = over.index ∷ []; tokens = left }) → one.answer ≡ Ok tt
-        → IfOk result (IsSummary documents) × ((fault : E) → result ≡ Err (causes.Fault fault) → ⊥)
+    abbrev Came : Result Summary (Or Astray) → Type 0
+    Came result = ConversesOr (λ (worker : WorkerValue). worker.confs) (by_tokens schema base) documents result (first_worker over.index) (record { confs = over.index ∷ []; tokens = left })
+
+    by_found : (result : Result Summary (Or Astray)) → Came result → one.answer ≡ Ok tt → IfOk result (IsSummary documents)
     by_found (Ok summary) converses well =
         let (history, is_whole) = whole schema base opened over.index confs left one over.is works ends well in
-        (found_so laws schema base history over.index over.ours documents over.empty (all_drawn number docs) few_documents (record { confs = over.index ∷ []; tokens = left }) is_whole summary converses, λ fault is. cc is)
-    by_found (Err (causes.Fault fault)) astray well =
-        let (history, is_whole) = whole schema base opened over.index confs left one over.is works ends well in
-        absurd (astray_never laws schema base history over.index over.ours documents over.empty (all_drawn number docs) few_documents (record { confs = over.index ∷ []; tokens = left }) is_whole astray)
-    by_found (Err causes.NoMemory) converses well = (tt, λ fault is. cc is)
+        found_so laws schema base history over.index over.ours documents over.empty (all_drawn number docs) few_documents (record { confs = over.index ∷ []; tokens = left }) is_whole summary converses
+    by_found (Err fault) astray well = tt
 
     -- where the engine ended well, what was found is a summary of the documents
     pub found_well : one.answer ≡ Ok tt → IfOk found (IsSummary documents)
-    found_well well = (by_found found led well).0
+    found_well well = by_found found led well
 
-    -- and no statement went astray
+    -- and no statement went astray but a job
     pub never_so : IsNeverAstray found one.answer
-    never_so well = (by_found found led well).1
+    never_so well astray =
+        let (history, is_whole) = whole schema base opened over.index confs left one over.is works ends well in
+        astray_never laws schema base history over.index over.ours documents over.empty (all_drawn number docs) few_documents (record { confs = over.index ∷ []; tokens = left }) is_whole (subst Came astray led)
 
     -- how the one engine ended is what the answer says
     pub ends_so : (answer : Result Summary SelftestFault) → IsAnswered found one.answer answer → Ends words documents answer
@@ -224,11 +227,13 @@ module _ {D : Type 0} (words : DiskWords D) where
 
         by_answer : (answer : Result Summary SelftestFault) → IsAnswered found one.answer answer → Ends words documents answer
         by_answer (Ok summary) (is, ok) =
-            ends_by (Some (record { documents = documents; summary = summary })) (Ok tt) (subst (λ (r : Result Summary (Or E)). LeadsTo schema base confs documents r first_tokens left) is leads) ok ends
+            ends_by (Some (record { documents = documents; result = Ok summary })) (Ok tt) (subst (λ (r : Result Summary (Or Astray)). LeadsTo schema base confs documents r first_tokens left) is leads) ok ends
+        by_answer (Err FailsJob) (is, ok) =
+            ends_by (Some (record { documents = documents; result = Err (causes.Fault JobFailed) })) (Ok tt) (subst (λ (r : Result Summary (Or Astray)). LeadsTo schema base confs documents r first_tokens left) is leads) ok ends
         by_answer (Err (HasStrayed strayed)) says = ends_by None (Err (causes.Fault strayed)) tt says ends
         by_answer (Err NoMemory) says = tt
 
 -- what holds of what was found, where the end was well, holds of the answer
-pub answered_so : {E : Type 0} (P : Summary → Type 0) (found : Result Summary (Or E)) (end : Result (Unit {0}) (Or Strayed)) (answer : Result Summary SelftestFault) → IsAnswered found end answer → (end ≡ Ok tt → IfOk found P) → IfOk answer P
-answered_so {E} P found end (Ok summary) (is, ok) holds = subst (λ (r : Result Summary (Or E)). IfOk r P) is (holds ok)
+pub answered_so : (P : Summary → Type 0) (found : Result Summary (Or Astray)) (end : Result (Unit {0}) (Or Strayed)) (answer : Result Summary SelftestFault) → IsAnswered found end answer → (end ≡ Ok tt → IfOk found P) → IfOk answer P
+answered_so P found end (Ok summary) (is, ok) holds = subst (λ (r : Result Summary (Or Astray)). IfOk r P) is (holds ok)
 answered_so P found end (Err fault) says holds = tt

@@ -13,10 +13,11 @@ use Rattle.ql_refusals.specs.Refusals.{Refused, no_memory, state_of}
 use Rattle.ql_tree.specs.declared.statement.Statement.TheVariants as statements
 use Rattle.step_history.specs.History.{Base, Step, commits}
 use Rattle.engine_tables.specs.Workers.{WorkerValue, by_tokens}
-use Rattle.self_test.specs.Asking.{AreDone, GoAstray, IsAstray, IsDone, Telling, bytes_of, has_code, is_stop}
+use Rattle.self_test.specs.Asking.{AreDone, GoAstray, IsAstray, IsDone, Telling, bytes_of, is_stop}
 use Rattle.self_test.specs.Conversations.{begin, commit, insert, job, loading, transactions, writing}
 use Rattle.self_test.specs.Documents.{after_document, documents_from}
 use Rattle.self_test.specs.Own.{IsDrawn, IsEmpty, IsOwn}
+use Rattle.self_test.specs.declared.fault.Astray.TheVariants.{JobFailed, Unexpected}
 use Rattle.self_test.specs.declared.generator.Document.{Document}
 use Rattle.self_test.proofs.Knowing.{AreOwn}
 use Rattle.self_test.proofs.Seated.{Seat, one_led}
@@ -47,10 +48,6 @@ stop_fails (Shows set) stop = absurd (cc stop)
 stop_fails (Finds sets meta) stop = absurd (cc stop)
 stop_fails (Fails refusal) stop = (refusal, refl)
 
-not_first : (p q : Bool) → (p || q) ≡ false → p ≡ false
-not_first true q none = absurd (cc none)
-not_first false q none = refl
-
 -- what is replied where a statement is done
 done_is : (state new : State) (reply : Reply) (affected status : ℕ) → reply ≡ Done affected → bytes_of state (Done affected) ≡ ok_packet 1 affected status → new ≡ state → bytes_of new reply ≡ ok_packet 1 affected status
 done_is state new reply affected status done ok same = ap (λ (r : Reply). bytes_of new r) done ∙ ap (λ (s : State). bytes_of s (Done affected)) same ∙ ok
@@ -78,8 +75,9 @@ module _ (schema : ℕ → Schema) (base : ℕ → Base) (history : List Step) w
   abbrev pub AreAllDone : List Telling → State → WorkerValue → State → WorkerValue → Type 0
   AreAllDone = AreDone (λ (worker : WorkerValue). worker.confs) (by_tokens schema base)
 
+  -- a statement went astray that is no job
   abbrev pub GoSomeAstray : List Telling → State → WorkerValue → State → WorkerValue → Type 0
-  GoSomeAstray = GoAstray (λ (worker : WorkerValue). worker.confs) (by_tokens schema base)
+  GoSomeAstray = GoAstray (λ (worker : WorkerValue). worker.confs) (by_tokens schema base) Unexpected
 
   -- what is ahead of statements that are done was ahead of the first one
   pub ahead_done : (tellings : List Telling) (old new : State) (before left : WorkerValue) → Seat before → AreAllDone tellings old before new left → IsAhead history left → IsAhead history before
@@ -90,7 +88,7 @@ module _ (schema : ℕ → Schema) (base : ℕ → Base) (history : List Step) w
 
   pub ahead_astray : (tellings : List Telling) (old new : State) (before left : WorkerValue) → Seat before → GoSomeAstray tellings old before new left → IsAhead history left → IsAhead history before
   ahead_astray [] old new before left seat gone ahead = absurd gone
-  ahead_astray (telling ∷ tellings) old new before left seat (inl one) ahead =
+  ahead_astray (telling ∷ tellings) old new before left seat (inl (same, one)) ahead =
       ahead_before schema base history before left seat (one_led schema base before left one.replied.told.event seat one.replied.told.follows) ahead
   ahead_astray (telling ∷ tellings) old new before left seat (inr (mid, between, one, rest)) ahead =
       let led = one_led schema base before between one.replied.told.event seat one.replied.told.follows in
@@ -175,35 +173,36 @@ module _ (schema : ℕ → Schema) (base : ℕ → Base) (history : List Step) w
           | inr so ↦ one.unwanted (done_is (state_at false []) new one.reply 0 2 so.0 no_transaction (so.1.state_is ∙ ap (λ (docs : List Doc). state_at false docs) (none_stored conf (length (done ++ waiting)) so.1.docs so.1.wait)))
         ]
 
-    job_never : (one : _) (old new : State) (before left : WorkerValue) → GoesAstray (job one) old before new left → ⊥
-    job_never one old new before left gone = gone.unwanted (not_first (has_code 1037 gone.reply) (has_code 1105 gone.reply) gone.goes_on)
+    -- no job is answered so
+    job_never : JobFailed ≡ Unexpected → ⊥
+    job_never same = cc same
 
     -- no statement of a script goes astray
     pub script_never : (done waiting : List Document) (begun : Bool) (tellings : List Telling) (all : List Document) → Script done waiting begun tellings all → (old new : State) (before left : WorkerValue)
         → Stands conf done waiting begun old before → GoSomeAstray tellings old before new left → IsAhead history left → ⊥
     script_never _ _ _ _ _ (finished done) old new before left stands gone ahead = gone
-    script_never _ _ _ _ _ (begins done rest all script) old new before left stands (inl one) ahead =
+    script_never _ _ _ _ _ (begins done rest all script) old new before left stands (inl (same, one)) ahead =
         let so = stands_begun schema base history conf is done one.reply old new before left stands one.replied.told in
         one.unwanted (done_is (state_at true so.1.docs) new one.reply 0 3 so.0 (in_transaction 0 so.1.docs) so.1.state_is)
     script_never _ _ _ _ _ (begins done rest all script) old new before left stands (inr (mid, between, one, gone)) ahead =
         let next = (stands_begun schema base history conf is done one.reply old mid before between stands one.replied.told).1 in
         script_never done [] true rest all script mid new between left next gone ahead
-    script_never _ _ _ _ _ (inserts done waiting document id rest all drawn few at small script) old new before left stands (inl one) ahead =
+    script_never _ _ _ _ _ (inserts done waiting document id rest all drawn few at small script) old new before left stands (inl (same, one)) ahead =
         insert_never done waiting document id old new before left drawn few at small stands one
     script_never _ _ _ _ _ (inserts done waiting document id rest all drawn few at small script) old new before left stands (inr (mid, between, one, gone)) ahead =
         let next = insert_done done waiting document id old mid before between drawn few at small stands one in
         script_never done (waiting ++ document ∷ []) true rest all script mid new between left next gone ahead
-    script_never _ _ _ _ _ (commits_all done waiting rest all some few script) old new before left stands (inl one) ahead =
+    script_never _ _ _ _ _ (commits_all done waiting rest all some few script) old new before left stands (inl (same, one)) ahead =
         commit_never done waiting old new before left some few ahead stands one
     script_never _ _ _ _ _ (commits_all done waiting rest all some few script) old new before left stands (inr (mid, between, one, gone)) ahead =
         let here = ahead_middle commit rest old mid new before between left stands.rests.seat one gone ahead in
         let next = commit_done done waiting old mid before between some few here stands one in
         script_never (done ++ waiting) [] false rest all script mid new between left next gone ahead
-    script_never _ _ _ _ _ (flushes done rest all script) old new before left stands (inl one) ahead = job_never (statements.FlushRamchunk (codes "t")) old new before left one
+    script_never _ _ _ _ _ (flushes done rest all script) old new before left stands (inl (same, one)) ahead = job_never same
     script_never _ _ _ _ _ (flushes done rest all script) old new before left stands (inr (mid, between, one, gone)) ahead =
         let next = stands_flushed schema base history conf is done one.reply old mid before between stands one.replied.told in
         script_never done [] false rest all script mid new between left next gone ahead
-    script_never _ _ _ _ _ (optimizes done rest all script) old new before left stands (inl one) ahead = job_never (statements.OptimizeIndex (codes "t")) old new before left one
+    script_never _ _ _ _ _ (optimizes done rest all script) old new before left stands (inl (same, one)) ahead = job_never same
     script_never _ _ _ _ _ (optimizes done rest all script) old new before left stands (inr (mid, between, one, gone)) ahead =
         let next = stands_optimized schema base history conf is done one.reply old mid before between stands one.replied.told in
         script_never done [] false rest all script mid new between left next gone ahead

@@ -39,7 +39,7 @@ use Rattle.self_test.proofs.Wants.{IsAsked, IsWithout, begins, commits_so, flush
 
 -- What is stored of documents.
 
-long_stored : (conf : IndexConf) (before : ℕ) (documents : List Document) (docs : List Doc) → AreStored conf before documents docs → length docs ≡ length documents
+pub long_stored : (conf : IndexConf) (before : ℕ) (documents : List Document) (docs : List Doc) → AreStored conf before documents docs → length docs ≡ length documents
 long_stored conf before [] [] are = refl
 long_stored conf before [] (doc ∷ docs) are = absurd are
 long_stored conf before (document ∷ documents) [] are = absurd are

@@ -11,6 +11,7 @@ use Rattle.ql_tree.specs.declared.select.Select.{Select}
 use Rattle.ql_tree.specs.declared.statement.Statement.{Statement}
 use Rattle.ql_tree.specs.declared.statement.Statement.TheVariants as statements
 use Rattle.self_test.specs.Findings.{FindsRows}
+use Rattle.self_test.specs.declared.fault.Astray.{Astray}
 use Rattle.ql_write.specs.Canonical.{canonical_text}
 use Rattle.ql_answers.specs.Replies.{Fails, Reply, is_refusal, payloads}
 use Rattle.ql_answers.specs.States.{status_of}
@@ -49,34 +50,29 @@ has_code code reply = false
 abbrev pub is_stop : Reply → Bool
 is_stop reply = has_code 1037 reply || has_code 1105 reply
 
--- What has to be replied to a statement.
-pub data Wanted : Type 0 where
-  -- OK, with so many rows affected, and this status
-  Made : ℕ → ℕ → Wanted
-  -- OK, or any refusal but that memory was refused: a job may have nothing left to do
-  Ended : Wanted
-
--- The reply is what it has to be.
-abbrev pub IsWanted : Wanted → State → Reply → Type 0
-IsWanted (Made affected status) state reply = bytes_of state reply ≡ ok_packet 1 affected status
-IsWanted Ended state reply = has_code 1037 reply ≡ false
-
--- A statement that a session is told by its canonical text, with what has to be replied to it.
+-- A statement that a session is told by its canonical text. OK has to be replied to it, with so many rows affected and this status;
+-- otherwise this is answered.
 pub record Telling : Type 0 where
   pub statement : Statement
-  pub wanted : Wanted
+  pub affected : ℕ
+  pub status : ℕ
+  pub otherwise : Astray
+
+-- The reply is what it has to be.
+abbrev pub IsWanted : Telling → State → Reply → Type 0
+IsWanted telling state reply = bytes_of state reply ≡ ok_packet 1 telling.affected telling.status
 
 -- It was told, and what has to be replied to it was replied.
 pub record IsDone {D F : Type 0} (confs : D → List IndexConf) (words : StoreWords D F) (telling : Telling) (old : State) (before : D) (new : State) (left : D) : Type 0 where
   pub reply : Reply
   pub replied : IsReplied confs words telling.statement reply old before new left
-  pub wanted : IsWanted telling.wanted new reply
+  pub wanted : IsWanted telling new reply
 
 -- It was told, and another thing was replied than what has to be, and not that memory was refused or the disk failed.
 pub record IsAstray {D F : Type 0} (confs : D → List IndexConf) (words : StoreWords D F) (telling : Telling) (old : State) (before : D) (new : State) (left : D) : Type 0 where
   pub reply : Reply
   pub replied : IsReplied confs words telling.statement reply old before new left
-  pub unwanted : IsWanted telling.wanted new reply → ⊥
+  pub unwanted : IsWanted telling new reply → ⊥
   pub goes_on : is_stop reply ≡ false
 
 -- one part of a conversation, and then another one
@@ -89,16 +85,17 @@ abbrev pub AreDone : {D F : Type 0} → (D → List IndexConf) → StoreWords D 
 AreDone confs words [] old before new left = (new ≡ old) × (left ≡ before)
 AreDone confs words (telling ∷ tellings) old before new left = (IsDone confs words telling then AreDone confs words tellings) old before new left
 
--- One of these statements went astray, and those before it were done.
-abbrev pub GoAstray : {D F : Type 0} → (D → List IndexConf) → StoreWords D F → List Telling → State → D → State → D → Type 0
-GoAstray confs words [] old before new left = ⊥
-GoAstray confs words (telling ∷ tellings) old before new left =
-    IsAstray confs words telling old before new left ⊎ (IsDone confs words telling then GoAstray confs words tellings) old before new left
+-- One of these statements went astray, for which this is answered, and those before it were done.
+abbrev pub GoAstray : {D F : Type 0} → (D → List IndexConf) → StoreWords D F → Astray → List Telling → State → D → State → D → Type 0
+GoAstray confs words fault [] old before new left = ⊥
+GoAstray confs words fault (telling ∷ tellings) old before new left =
+    ((telling.otherwise ≡ fault) × IsAstray confs words telling old before new left)
+    ⊎ (IsDone confs words telling then GoAstray confs words fault tellings) old before new left
 
 -- What is answered where these statements are told: all were done, or one went astray. Out of memory is free.
-abbrev pub AreTold : {D F T E : Type 0} → (D → List IndexConf) → StoreWords D F → List Telling → Result T (Or E) → State → D → State → D → Type 0
+abbrev pub AreTold : {D F T : Type 0} → (D → List IndexConf) → StoreWords D F → List Telling → Result T (Or Astray) → State → D → State → D → Type 0
 AreTold confs words tellings (Ok done) = AreDone confs words tellings
-AreTold confs words tellings (Err (causes.Fault fault)) = GoAstray confs words tellings
+AreTold confs words tellings (Err (causes.Fault fault)) = GoAstray confs words fault tellings
 AreTold confs words tellings (Err causes.NoMemory) = λ old before new left. Unit {0}
 
 -- so many packets, numbered from 1

@@ -16,11 +16,13 @@ use Rattle.snap_share.specs.Closings.{Closes}
 use Rattle.engine_tables.specs.Tokens.{TokensValue, new_seat, told_at, tokens_at}
 use Rattle.engine_tables.specs.Workers.{by_tokens}
 use Rattle.self_test.specs.Asking.{Leads}
-use Rattle.self_test.specs.Conversations.{Converses}
+use Rattle.self_test.specs.Conversations.{ConversesOr}
 use Rattle.self_test.specs.Own.{IsEmpty, IsOurs}
 use Rattle.self_test.specs.declared.generator.Document.{Document}
+use Rattle.self_test.specs.declared.fault.Astray.{Astray}
+use Rattle.self_test.specs.declared.fault.Astray.TheVariants.{JobFailed}
 use Rattle.self_test.specs.declared.fault.SelftestFault.{SelftestFault}
-use Rattle.self_test.specs.declared.fault.SelftestFault.TheVariants.{NoMemory, Strayed as HasStrayed}
+use Rattle.self_test.specs.declared.fault.SelftestFault.TheVariants.{NoMemory, JobFailed as FailsJob, Strayed as HasStrayed}
 use Rattle.self_test.specs.declared.summary.Summary.{Summary}
 
 -- the token of the one worker, which has seen no step of the one index and was told nothing of it
@@ -32,20 +34,20 @@ abbrev pub Works : (ℕ → Schema) → (ℕ → Base) → List IndexConf → To
 Works schema base confs first left = Leads (λ worker. worker.confs) (by_tokens schema base) (record { confs = confs; tokens = first }) (record { confs = confs; tokens = left })
 
 -- The one worker of engines of these indexes, with these tokens, was led to such other ones by a conversation about these documents, which
--- found this.
-abbrev pub Finds : (ℕ → Schema) → (ℕ → Base) → List IndexConf → List Document → Summary → TokensValue → TokensValue → Type 0
-Finds schema base confs documents summary first left =
-    Converses (λ worker. worker.confs) (by_tokens schema base) documents summary (record { confs = confs; tokens = first }) (record { confs = confs; tokens = left })
+-- came to this: to what it found, or to why it went astray.
+abbrev pub LeadsTo : (ℕ → Schema) → (ℕ → Base) → List IndexConf → List Document → Result Summary (Or Astray) → TokensValue → TokensValue → Type 0
+LeadsTo schema base confs documents result first left =
+    ConversesOr (λ worker. worker.confs) (by_tokens schema base) documents result (record { confs = confs; tokens = first }) (record { confs = confs; tokens = left })
 
--- What a conversation found, and about which documents it was.
+-- What a conversation came to, and about which documents it was.
 pub record Found : Type 0 where
   pub documents : List Document
-  pub summary : Summary
+  pub result : Result Summary (Or Astray)
 
--- What is told of a conversation, it found from the worker's first tokens on.
+-- What is told of a conversation, it came to from the worker's first tokens on.
 abbrev pub HasFound : (ℕ → Schema) → (ℕ → Base) → List IndexConf → Option Found → TokensValue → Type 0
 HasFound schema base confs None left = Unit {0}
-HasFound schema base confs (Some found) left = Finds schema base confs found.documents found.summary first_tokens left
+HasFound schema base confs (Some found) left = LeadsTo schema base confs found.documents found.result first_tokens left
 
 -- There is one index, the selftest's own, whose store was opened: it has the columns that are configured, its history begins where the
 -- store stood, which is without documents, and what its disk had counted is what it counted then.
@@ -61,7 +63,7 @@ pub record IsOver {D : Type 0} (words : DiskWords D) (schema : ℕ → Schema) (
   pub is_opened : IsOpened words (schema 0) store
 
 -- The engine of such an index ended with this answer and a note of its history, by the tokens that the selftest left and what was told
--- beside them. What was found is what the conversation found that left these tokens.
+-- beside them. What was found is what the conversation came to that left these tokens.
 pub record EndsBy {D : Type 0} (words : DiskWords D) (found : Option Found) (answer : Result (Unit {0}) (Or Strayed)) : Type 0 where
   pub schema : ℕ → Schema
   pub base : ℕ → Base
@@ -76,9 +78,11 @@ pub record EndsBy {D : Type 0} (words : DiskWords D) (found : Option Found) (ans
   pub new : List TokenValue
   pub closes : Closes words schema base opened 0 1 (told_at 0 (left ∷ [])) (tokens_at 0 (left ∷ [])) disk note answer new
 
--- Where there is a summary, its token had seen the whole history as the end says; or the end answered that the history strayed. That a
--- session replied wrongly is no answer. Out of memory is free.
+-- Where there is a summary, its token had seen the whole history as the end says. That a job failed comes only where all was well with
+-- the history and the conversation came to that; or the end answered that the history strayed. That a session replied wrongly otherwise is
+-- no answer. Out of memory is free.
 abbrev pub Ends : {D : Type 0} → DiskWords D → List Document → Result Summary SelftestFault → Type 0
-Ends words documents (Ok summary) = EndsBy words (Some (record { documents = documents; summary = summary })) (Ok tt)
+Ends words documents (Ok summary) = EndsBy words (Some (record { documents = documents; result = Ok summary })) (Ok tt)
+Ends words documents (Err FailsJob) = EndsBy words (Some (record { documents = documents; result = Err (causes.Fault JobFailed) })) (Ok tt)
 Ends words documents (Err (HasStrayed strayed)) = EndsBy words None (Err (causes.Fault strayed))
 Ends words documents (Err NoMemory) = Unit {0}

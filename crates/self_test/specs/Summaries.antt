@@ -2,14 +2,13 @@
 -- words those where they stand next to each other in this order; a group is found where a document has it.
 use Rattle.std.specs.Prelude.{◌≡◌, ◌≢◌, ℕ, zero, suc, ◌+◌, List, [], ◌∷◌, ◌++◌, AllPairs, length, map, codes, decimal}
 use Rattle.doc_types.specs.Rows.{rows_of}
-use Rattle.doc_types.specs.Snapshots.{SnapshotValue, live}
 use Rattle.doc_types.specs.declared.documents.DocRow.{DocRow}
 use Rattle.index_conf.specs.declared.conf.IndexConf.{IndexConf}
 use Rattle.ql_answers.specs.Reading.{table_set}
-use Rattle.ql_answers.specs.Sessions.{disk_count}
 use Rattle.ql_select.specs.Selections.{Selects}
 use Rattle.ql_select.specs.declared.selection.Selection.{Selection}
 use Rattle.ql_tree.specs.declared.select.Select.{Select}
+use Rattle.step_history.specs.History.{chunks_for}
 use Rattle.table_search.specs.Tables.{AreTables}
 use Rattle.table_search.specs.declared.found.Found.{Found}
 use Rattle.self_test.specs.Loads.{AreStored}
@@ -47,7 +46,7 @@ abbrev pub AreCounts : IndexConf → List DocRow → Count → ℕ → Type 0
 AreCounts conf rows count sum = FindUpTo conf rows (count_select count) (many count) sum
 
 -- What a selftest says of documents: they are stored in an index that is a selftest's, under the ids from 1 on, and each number is the
--- sum of what the SELECTs find there. The chunks are those on the disk of a snapshot of the index that has these documents and no others.
+-- sum of what the SELECTs find there. There is one chunk, or none where there are no documents.
 pub record IsSummary (documents : List Document) (summary : Summary) : Type 0 where
   pub conf : IndexConf
   pub ours : IsOurs conf
@@ -57,9 +56,7 @@ pub record IsSummary (documents : List Document) (summary : Summary) : Type 0 wh
   pub words : AreCounts conf rows Words summary.words
   pub pairs : AreCounts conf rows Pairs summary.pairs
   pub groups : AreCounts conf rows Groups summary.groups
-  pub snapshot : SnapshotValue
-  pub has : live snapshot ≡ rows_of rows
-  pub chunks : disk_count snapshot ≡ summary.chunks
+  pub chunks : summary.chunks ≡ chunks_for rows
 
 -- The five lines of a summary.
 abbrev pub lines_of : Summary → List ℕ

@@ -6,12 +6,12 @@ ghost use Rattle.ql_session.specs.Statements.{States};
 ghost use Rattle.ql_tree.specs.declared.statement.Statement.{Statement};
 ghost use Rattle.ql_tree.specs.declared.statement.Statement.TheVariants as statements;
 ghost use Rattle.ql_write.specs.Canonical.{canonical_text};
-ghost use Rattle.self_test.specs.Asking.{AreTold, Asks, Ended, Leads, Made};
+ghost use Rattle.self_test.specs.Asking.{AreTold, Asks, Leads};
 ghost use Rattle.self_test.specs.Texts.{count_select};
 ghost use Rattle.self_test.specs.declared.summary.Count.{Count};
 ghost use Rattle.self_test.specs.steps.Replies.{RowsOr, is_err, is_err_of, stops};
 
-use crate::Unexpected;
+use crate::Astray;
 use mysql_wire::{Command, ok_packet};
 use ql_session::{Session, TableStore, a_text_is_read_in_one_way};
 use reply_rows::Replies;
@@ -66,17 +66,18 @@ impl Client {
             .step(self.alloc, tables, query, &mut self.replies);
     }
 
-    /// Tells a text that is to be answered OK, with so many rows affected and this status. A fault of the disk is want of memory: the
-    /// disk is in memory.
+    /// Tells a text that is to be answered OK, with so many rows affected and this status, or else the answer is this fault. A fault of
+    /// the disk is want of memory: the disk is in memory.
     pub(crate) fn tell<T: TableStore>(
         &mut self,
         tables: &mut T,
         text: &str,
         affected: u64,
         status: u16,
-    ) -> Result<(), Or<Unexpected>>
+        otherwise: Astray,
+    ) -> Result<(), Or<Astray>>
         requires fits { Fits (T.confs tables.old) self.old.session }
-        ensures told { (statement : Statement) → text.now ≡ canonical_text statement → States text.now (statement ∷ []) → AreTold T.confs T.words (record { statement = statement; wanted = Made affected status } ∷ []) result self.old.session tables.old self.new.session tables.new }
+        ensures told { (statement : Statement) → text.now ≡ canonical_text statement → States text.now (statement ∷ []) → AreTold T.confs T.words (record { statement = statement; affected = affected; status = status; otherwise = otherwise } ∷ []) result self.old.session tables.old self.new.session tables.new }
         ensures fits { Fits (T.confs tables.new) self.new.session }
         ensures confs { T.confs tables.new ≡ T.confs tables.old }
         ensures leads { Leads T.confs T.words tables.old tables.new }
@@ -89,28 +90,7 @@ impl Client {
         if is_stop(self.replies.bytes()) {
             return Err(Or::NoMemory);
         }
-        Err(Or::Fault(Unexpected))
-    }
-
-    /// Tells a text that does a job. It may be refused, as where another job has ended since or there is no room, and what is found
-    /// stays the same; only want of memory is an end.
-    pub(crate) fn tell_job<T: TableStore>(
-        &mut self,
-        tables: &mut T,
-        text: &str,
-    ) -> Result<(), Or<Unexpected>>
-        requires fits { Fits (T.confs tables.old) self.old.session }
-        ensures told { (statement : Statement) → text.now ≡ canonical_text statement → States text.now (statement ∷ []) → AreTold T.confs T.words (record { statement = statement; wanted = Ended } ∷ []) result self.old.session tables.old self.new.session tables.new }
-        ensures fits { Fits (T.confs tables.new) self.new.session }
-        ensures confs { T.confs tables.new ≡ T.confs tables.old }
-        ensures leads { Leads T.confs T.words tables.old tables.new }
-    {
-        a_text_is_read_in_one_way();
-        self.ask(tables, text);
-        if says_err_of(OUT_OF_MEMORY, self.replies.bytes()) {
-            return Err(Or::NoMemory);
-        }
-        Ok(())
+        Err(Or::Fault(otherwise))
     }
 
     /// Asks a text that counts, and gives how many rows were replied.
@@ -118,7 +98,7 @@ impl Client {
         &mut self,
         tables: &mut T,
         text: &str,
-    ) -> Result<u32, Or<Unexpected>>
+    ) -> Result<u32, Or<Astray>>
         requires fits { Fits (T.confs tables.old) self.old.session }
         ensures rows { (count : Count) → (number : ℕ) → text.now ≡ canonical_text (statements.Select (count_select count number)) → States text.now (statements.Select (count_select count number) ∷ []) → RowsOr T.confs T.words (count_select count number) result self.old.session tables.old self.new.session tables.new }
         ensures fits { Fits (T.confs tables.new) self.new.session }
@@ -132,10 +112,10 @@ impl Client {
             return Err(Or::NoMemory);
         }
         if says_err(reply) {
-            return Err(Or::Fault(Unexpected));
+            return Err(Or::Fault(Astray::Unexpected));
         }
         if reply.len() > MAX_REPLY {
-            return Err(Or::Fault(Unexpected));
+            return Err(Or::Fault(Astray::Unexpected));
         }
         Ok(count_packets(reply).saturating_sub(PACKETS_BESIDE_ROWS) as u32)
     }

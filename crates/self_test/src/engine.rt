@@ -5,13 +5,13 @@ ghost use Rattle.engine_tables.specs.Tokens.{SitsAt};
 ghost use Rattle.engine_tables.specs.declared.ended.Ended.{Ended as AnyEnded};
 ghost use Rattle.store_keep.specs.Opens.{HidesNothing};
 ghost use Rattle.self_test.specs.Documents.{documents_from};
-ghost use Rattle.self_test.specs.Ends.{Ends, IsOver, Works, first_tokens};
+ghost use Rattle.self_test.specs.Ends.{Ends, IsOver, LeadsTo, Works, first_tokens};
 ghost use Rattle.self_test.specs.Summaries.{IsSummary};
-ghost use Rattle.self_test.specs.steps.Engines.{HoldsNothing, IsAnswered, IsNeverAstray, IsReady, LeadsTo};
+ghost use Rattle.self_test.specs.steps.Engines.{HoldsNothing, IsAnswered, IsNeverAstray, IsReady};
 
 use crate::index::{one, own_index};
 use crate::running::run;
-use crate::{SelftestFault, Summary, Unexpected};
+use crate::{Astray, SelftestFault, Summary};
 use charset_map::a_text_is_read_in_one_way;
 use chunk_store::{Disk, MemoryDisk};
 use commit_outcomes::Strayed;
@@ -30,7 +30,7 @@ use store_keep::Opened;
 /// Runs a selftest over an engine of the index `t`, with the field `title` and the attribute `gid`, on a disk in memory. The engine
 /// has ended before this answers: where its history strayed, that is the answer, whatever was found.
 ///
-/// Where it ended well, each statement was replied to as it has to be, or memory was refused.
+/// Where it ended well, each statement was replied to as it has to be, or a job failed, or memory was refused.
 pub fn run_over_engine<R: Threads + Wait>(
     rt: &R,
     alloc: Global,
@@ -152,7 +152,7 @@ fn work<D: Disk, J: Naming, R: Wait>(
     tokens: Tokens<J>,
     number: u32,
     docs: u32,
-) -> (Result<Summary, Or<Unexpected>>, Tokens<J>)
+) -> (Result<Summary, Or<Astray>>, Tokens<J>)
     requires one { length engines.now.confs ≡ 1 }
     requires sits { SitsAt engines.now tokens }
     ensures finds { LeadsTo J.schema J.base engines.now.confs (documents_from number docs) result.0 tokens result.1 }
@@ -180,7 +180,7 @@ fn end_of<D: Disk + Drop, J: Naming>(mut ended: Vec<Ended<D, J>>) -> Result<(), 
 
 /// What is answered, by what was found and how the engine ended.
 fn answer(
-    found: Result<Summary, Or<Unexpected>>,
+    found: Result<Summary, Or<Astray>>,
     end: Result<(), Or<Strayed>>,
 ) -> Result<Summary, SelftestFault>
     requires { IsNeverAstray found end }
@@ -189,7 +189,8 @@ fn answer(
     match end {
         Ok(()) => match found {
             Ok(summary) => Ok(summary),
-            Err(Or::Fault(Unexpected)) => unreachable!(),
+            Err(Or::Fault(Astray::Unexpected)) => unreachable!(),
+            Err(Or::Fault(Astray::JobFailed)) => Err(SelftestFault::JobFailed),
             Err(Or::NoMemory) => Err(SelftestFault::NoMemory),
         },
         Err(Or::Fault(strayed)) => Err(SelftestFault::Strayed(strayed)),

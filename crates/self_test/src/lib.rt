@@ -12,8 +12,8 @@ mod summary;
 mod texts;
 
 pub use engine::run_over_engine;
-pub use fault::SelftestFault;
+pub use fault::{Astray, SelftestFault};
 pub use generator::{Document, documents};
 pub use laws::texts_are_read_as_statements;
-pub use running::{Unexpected, run};
+pub use running::run;
 pub use summary::Summary;

@@ -6,12 +6,13 @@ ghost use Rattle.ql_session.specs.Statements.{States};
 ghost use Rattle.ql_tree.specs.declared.statement.Statement.{Statement};
 ghost use Rattle.ql_write.specs.Canonical.{canonical_text};
 ghost use Rattle.self_test.specs.Asking.{AreTold, Leads, SeesChunks};
-ghost use Rattle.self_test.specs.Conversations.{ConversesOr, CountsOr, SumsOr, before_document, behind_document, insert, job, loading, transactions};
+ghost use Rattle.self_test.specs.Conversations.{ConversesOr, CountsOr, SumsOr, before_document, behind_document, insert, job, loading, merged_chunks, transactions};
 ghost use Rattle.ql_answers.specs.States.{new_state};
 ghost use Rattle.self_test.specs.Documents.{documents_from};
 ghost use Rattle.self_test.specs.Texts.{count_select};
-ghost use Rattle.self_test.specs.steps.Replies.{RowsOr};
+ghost use Rattle.self_test.specs.steps.Replies.{IsChecked, RowsOr};
 
+use crate::Astray;
 use crate::asking::Client;
 use crate::generator::{Document, documents};
 use crate::laws::{inserts_are_read, texts_are_read_as_statements};
@@ -29,10 +30,6 @@ const IN_TRANSACTION: u16 = 3;
 
 const AUTOCOMMIT: u16 = 2;
 
-/// A reply isn't the one that it has to be.
-#[derive(Clone, Copy, Debug, PartialEq, Eq, Drop)]
-pub struct Unexpected;
-
 /// Writes the documents of a number to the index `t`, the only one of a store, which has none, and asks a session what it finds of
 /// them.
 pub fn run<T: TableStore>(
@@ -40,7 +37,7 @@ pub fn run<T: TableStore>(
     tables: &mut T,
     number: u32,
     docs: u32,
-) -> Result<Summary, Or<Unexpected>>
+) -> Result<Summary, Or<Astray>>
     requires one { length (T.confs tables.old) ≡ 1 }
     ensures comes { ConversesOr T.confs T.words (documents_from number docs) result tables.old tables.new }
     ensures confs { T.confs tables.new ≡ T.confs tables.old }
@@ -57,7 +54,7 @@ fn found<T: TableStore>(
     alloc: Global,
     tables: &mut T,
     documents: &[Document],
-) -> Result<Summary, Or<Unexpected>>
+) -> Result<Summary, Or<Astray>>
     requires few { length documents.now < 2 ^ 32 }
     requires one { length (T.confs tables.old) ≡ 1 }
     ensures converses { ConversesOr T.confs T.words documents.now result tables.old tables.new }
@@ -77,7 +74,7 @@ fn converse<T: TableStore>(
     tables: &mut T,
     text: &mut String,
     documents: &[Document],
-) -> Result<Summary, Or<Unexpected>>
+) -> Result<Summary, Or<Astray>>
     requires few { length documents.now < 2 ^ 32 }
     requires one { length (T.confs tables.old) ≡ 1 }
     requires begins { client.old.session ≡ new_state }
@@ -99,7 +96,7 @@ fn load<T: TableStore>(
     tables: &mut T,
     text: &mut String,
     documents: &[Document],
-) -> Result<(), Or<Unexpected>>
+) -> Result<(), Or<Astray>>
     requires few { length documents.now < 2 ^ 32 }
     requires fits { Fits (T.confs tables.old) client.old.session }
     ensures told { AreTold T.confs T.words (loading documents.now) result client.old.session tables.old client.new.session tables.new }
@@ -132,7 +129,7 @@ fn write_half<T: TableStore>(
     before: u32,
     documents: &[Document],
     order: &str,
-) -> Result<(), Or<Unexpected>>
+) -> Result<(), Or<Astray>>
     requires few { before + length documents.now < 2 ^ 32 }
     requires fits { Fits (T.confs tables.old) client.old.session }
     ensures told { (statement : Statement) → order.now ≡ canonical_text statement → States order.now (statement ∷ []) → AreTold T.confs T.words (transactions before documents.now ++ job statement ∷ []) result client.old.session tables.old client.new.session tables.new }
@@ -141,7 +138,7 @@ fn write_half<T: TableStore>(
     ensures leads { Leads T.confs T.words tables.old tables.new }
 {
     match write(client, tables, text, before, documents) {
-        Ok(()) => client.tell_job(tables, order),
+        Ok(()) => client.tell(tables, order, 0, AUTOCOMMIT, Astray::JobFailed),
         Err(fault) => Err(fault),
     }
 }
@@ -154,7 +151,7 @@ fn write<T: TableStore>(
     text: &mut String,
     before: u32,
     documents: &[Document],
-) -> Result<(), Or<Unexpected>>
+) -> Result<(), Or<Astray>>
     requires few { before + length documents.now < 2 ^ 32 }
     requires fits { Fits (T.confs tables.old) client.old.session }
     ensures told { AreTold T.confs T.words (transactions before documents.now) result client.old.session tables.old client.new.session tables.new }
@@ -186,7 +183,7 @@ fn write_next<T: TableStore>(
     last: u32,
     number: u32,
     document: &Document,
-) -> Result<(), Or<Unexpected>>
+) -> Result<(), Or<Astray>>
     requires few { before + number + 1 < 2 ^ 32 }
     requires fits { Fits (T.confs tables.old) client.old.session }
     ensures told { AreTold T.confs T.words (before_document number ++ insert (before + (number + 1)) document.now ∷ behind_document last (number + 1)) result client.old.session tables.old client.new.session tables.new }
@@ -210,7 +207,7 @@ fn write_one<T: TableStore>(
     text: &mut String,
     id: u32,
     document: &Document,
-) -> Result<(), Or<Unexpected>>
+) -> Result<(), Or<Astray>>
     requires fits { Fits (T.confs tables.old) client.old.session }
     ensures told { AreTold T.confs T.words (insert id document.now ∷ []) result client.old.session tables.old client.new.session tables.new }
     ensures fits { Fits (T.confs tables.new) client.new.session }
@@ -219,18 +216,14 @@ fn write_one<T: TableStore>(
 {
     inserts_are_read();
     match write_insert(text, id, document) {
-        Ok(()) => client.tell(tables, text.as_str(), 1, IN_TRANSACTION),
+        Ok(()) => client.tell(tables, text.as_str(), 1, IN_TRANSACTION, Astray::Unexpected),
         Err(_) => Err(Or::NoMemory),
     }
 }
 
 /// Begins a transaction before its first document, behind so many others.
 #[tactic(auto, using(crate::proofs::Letters::begin_is))]
-fn begin<T: TableStore>(
-    client: &mut Client,
-    tables: &mut T,
-    number: u32,
-) -> Result<(), Or<Unexpected>>
+fn begin<T: TableStore>(client: &mut Client, tables: &mut T, number: u32) -> Result<(), Or<Astray>>
     requires fits { Fits (T.confs tables.old) client.old.session }
     ensures told { AreTold T.confs T.words (before_document number) result client.old.session tables.old client.new.session tables.new }
     ensures fits { Fits (T.confs tables.new) client.new.session }
@@ -239,7 +232,7 @@ fn begin<T: TableStore>(
 {
     texts_are_read_as_statements();
     if number % PER_TRANSACTION == 0 {
-        client.tell(tables, "BEGIN", 0, IN_TRANSACTION)
+        client.tell(tables, "BEGIN", 0, IN_TRANSACTION, Astray::Unexpected)
     } else {
         Ok(())
     }
@@ -252,7 +245,7 @@ fn commit<T: TableStore>(
     tables: &mut T,
     last: u32,
     number: u32,
-) -> Result<(), Or<Unexpected>>
+) -> Result<(), Or<Astray>>
     requires fits { Fits (T.confs tables.old) client.old.session }
     ensures told { AreTold T.confs T.words (behind_document last number) result client.old.session tables.old client.new.session tables.new }
     ensures fits { Fits (T.confs tables.new) client.new.session }
@@ -261,20 +254,20 @@ fn commit<T: TableStore>(
 {
     texts_are_read_as_statements();
     if number % PER_TRANSACTION == 0 || number == last {
-        client.tell(tables, "COMMIT", 0, AUTOCOMMIT)
+        client.tell(tables, "COMMIT", 0, AUTOCOMMIT, Astray::Unexpected)
     } else {
         Ok(())
     }
 }
 
-/// Asks for all that is counted, and then how many chunks there are.
+/// Asks for all that is counted, and then how many chunks there are: those that OPTIMIZE leaves, or a job failed.
 #[tactic(auto, using(crate::proofs::Leading::leads_then))]
 fn count_all<T: TableStore>(
     client: &mut Client,
     tables: &mut T,
     text: &mut String,
     documents: u64,
-) -> Result<Summary, Or<Unexpected>>
+) -> Result<Summary, Or<Astray>>
     requires fits { Fits (T.confs tables.old) client.old.session }
     requires one { length (T.confs tables.old) ≡ 1 }
     ensures sums { SumsOr T.confs T.words documents result client.old.session tables.old tables.new }
@@ -285,7 +278,7 @@ fn count_all<T: TableStore>(
         Ok(words) => match count(client, tables, text, Count::Pairs) {
             Ok(pairs) => match count(client, tables, text, Count::Groups) {
                 Ok(groups) => match chunks(tables) {
-                    Ok(chunks) => Ok(Summary {
+                    Ok(chunks) => checked(Summary {
                         documents,
                         words,
                         pairs,
@@ -308,7 +301,7 @@ fn count<T: TableStore>(
     tables: &mut T,
     text: &mut String,
     count: Count,
-) -> Result<u64, Or<Unexpected>>
+) -> Result<u64, Or<Astray>>
     requires fits { Fits (T.confs tables.old) client.old.session }
     ensures counts { CountsOr T.confs T.words count result client.old.session tables.old client.new.session tables.new }
     ensures fits { Fits (T.confs tables.new) client.new.session }
@@ -332,7 +325,7 @@ fn count_one<T: TableStore>(
     text: &mut String,
     count: Count,
     number: u8,
-) -> Result<u32, Or<Unexpected>>
+) -> Result<u32, Or<Astray>>
     requires below { number < 50 }
     requires fits { Fits (T.confs tables.old) client.old.session }
     ensures rows { RowsOr T.confs T.words (count_select count number) result client.old.session tables.old client.new.session tables.new }
@@ -345,6 +338,24 @@ fn count_one<T: TableStore>(
         Ok(()) => client.count_rows(tables, text.as_str()),
         Err(_) => Err(Or::NoMemory),
     }
+}
+
+/// What is answered by a summary: itself, where it has the chunks that OPTIMIZE leaves.
+fn checked(summary: Summary) -> Result<Summary, Or<Astray>>
+    ensures { IsChecked summary result }
+{
+    if summary.chunks == merged(summary.documents) {
+        Ok(summary)
+    } else {
+        Err(Or::Fault(Astray::JobFailed))
+    }
+}
+
+/// How many chunks OPTIMIZE leaves of so many documents: one, or none where there are none.
+fn merged(documents: u64) -> u64
+    ensures { result ≡ merged_chunks documents }
+{
+    if documents == 0 { 0 } else { 1 }
 }
 
 /// How many chunks of the index are on the disk, by what a read of it sees.

@@ -14,7 +14,7 @@ use Rattle.program_host.specs.declared.host.Host.{Ghosts as HostWords}
 use Rattle.program_host.specs.declared.host.Stream.TheVariants.{Out}
 use Rattle.program_host.specs.declared.requests.Request.{Request}
 use Rattle.program_host.specs.declared.status.Status.{Status}
-use Rattle.program_host.specs.declared.status.Status.TheVariants.{Done, Usage, Config, HostFault, Damaged, NoMemory, Strayed}
+use Rattle.program_host.specs.declared.status.Status.TheVariants.{Done, Usage, Config, HostFault, Damaged, NoMemory, Strayed, JobFailed}
 use Rattle.searchd_top.specs.Deeds.{Deeds, Does}
 use Rattle.searchd_top.specs.Output.{SaysLines}
 
@@ -69,3 +69,4 @@ Configures told (Err Done) before now = ⊥
 Configures told (Err Usage) before now = ⊥
 Configures told (Err (Damaged index file place kind)) before now = ⊥
 Configures told (Err (Strayed index strayed)) before now = ⊥
+Configures told (Err JobFailed) before now = ⊥

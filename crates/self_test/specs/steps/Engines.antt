@@ -1,23 +1,19 @@
 -- Engines: what is asked of an index and its store, and what the end of its engine says of an answer.
-use Rattle.std.specs.Prelude.{◌≡◌, ℕ, List, Some, None, Result, Ok, Err}
+use Rattle.std.specs.Prelude.{◌≡◌, ℕ, Some, None, Result, Ok, Err}
 use Rattle.srch_base.specs.declared.faults.Or.{Or}
 use Rattle.srch_base.specs.declared.faults.Or.TheVariants as causes
 use Rattle.chunk_store.specs.declared.disk.Disk.{Ghosts as DiskWords}
 use Rattle.commit_outcomes.specs.declared.strayed.Strayed.{Strayed}
 use Rattle.index_conf.specs.declared.conf.IndexConf.{IndexConf}
 use Rattle.chunk_store.specs.Images.{Image}
-use Rattle.doc_types.specs.declared.schema.Schema.{Schema}
-use Rattle.engine_tables.specs.Tokens.{TokensValue}
-use Rattle.engine_tables.specs.Workers.{by_tokens}
-use Rattle.step_history.specs.History.{Base}
 use Rattle.store_keep.specs.Opens.{IsOpened, base_of}
 use Rattle.store_keep.specs.declared.opening.Opened.{Opened}
-use Rattle.self_test.specs.Conversations.{ConversesOr}
 use Rattle.self_test.specs.Own.{IsEmpty, IsOurs}
 use Rattle.self_test.specs.steps.Servable.{IsServable}
-use Rattle.self_test.specs.declared.generator.Document.{Document}
+use Rattle.self_test.specs.declared.fault.Astray.{Astray}
+use Rattle.self_test.specs.declared.fault.Astray.TheVariants.{JobFailed, Unexpected}
 use Rattle.self_test.specs.declared.fault.SelftestFault.{SelftestFault}
-use Rattle.self_test.specs.declared.fault.SelftestFault.TheVariants.{NoMemory, Strayed as HasStrayed}
+use Rattle.self_test.specs.declared.fault.SelftestFault.TheVariants.{NoMemory, JobFailed as FailsJob, Strayed as HasStrayed}
 use Rattle.self_test.specs.declared.summary.Summary.{Summary}
 
 -- The disk tells that it has no files.
@@ -33,18 +29,13 @@ pub record IsReady {D : Type 0} (words : DiskWords D) (index : IndexConf) (store
   pub opened : IsOpened words index.schema store
   pub empty : IsEmpty (base_of store)
 
--- The one worker of engines of these indexes, with these tokens, was led to such other ones by a conversation about these documents, which
--- came to this.
-abbrev pub LeadsTo : {E : Type 0} → (ℕ → Schema) → (ℕ → Base) → List IndexConf → List Document → Result Summary (Or E) → TokensValue → TokensValue → Type 0
-LeadsTo schema base confs documents result first left =
-    ConversesOr (λ worker. worker.confs) (by_tokens schema base) documents result (record { confs = confs; tokens = first }) (record { confs = confs; tokens = left })
-
--- where an engine ended well, the conversation didn't go astray
-abbrev pub IsNeverAstray : {E : Type 0} → Result Summary (Or E) → Result (Unit {0}) (Or Strayed) → Type 0
-IsNeverAstray {E} found end = end ≡ Ok tt → (fault : E) → found ≡ Err (causes.Fault fault) → ⊥
+-- where an engine ended well, the conversation didn't go astray but for a job
+abbrev pub IsNeverAstray : Result Summary (Or Astray) → Result (Unit {0}) (Or Strayed) → Type 0
+IsNeverAstray found end = end ≡ Ok tt → found ≡ Err (causes.Fault Unexpected) → ⊥
 
 -- what an answer says of what was found and of how the engine ended
-abbrev pub IsAnswered : {E : Type 0} → Result Summary (Or E) → Result (Unit {0}) (Or Strayed) → Result Summary SelftestFault → Type 0
+abbrev pub IsAnswered : Result Summary (Or Astray) → Result (Unit {0}) (Or Strayed) → Result Summary SelftestFault → Type 0
 IsAnswered found end (Ok summary) = (found ≡ Ok summary) × (end ≡ Ok tt)
+IsAnswered found end (Err FailsJob) = (found ≡ Err (causes.Fault JobFailed)) × (end ≡ Ok tt)
 IsAnswered found end (Err (HasStrayed strayed)) = end ≡ Err (causes.Fault strayed)
 IsAnswered found end (Err NoMemory) = Unit {0}

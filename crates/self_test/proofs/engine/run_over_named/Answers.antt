@@ -3,9 +3,9 @@ use Rattle.commit_outcomes.specs.declared.strayed.Strayed.{Strayed}
 use Rattle.srch_base.specs.declared.faults.Or.{Or}
 use Rattle.engine_tables.specs.Tokens.{SitsAt, TokensValue}
 use Rattle.self_test.specs.Documents.{documents_from}
-use Rattle.self_test.specs.Ends.{Works, first_tokens}
+use Rattle.self_test.specs.Ends.{LeadsTo, Works, first_tokens}
 use Rattle.self_test.specs.Summaries.{IsSummary}
-use Rattle.self_test.specs.steps.Engines.{IsAnswered, IsNeverAstray, LeadsTo}
+use Rattle.self_test.specs.steps.Engines.{IsAnswered, IsNeverAstray}
 use Rattle.self_test.proofs.Engines.{answered_so, can_end, ended_one, ends_so, first_last, found_well, never_so, put_one}
 use Rattle.self_test.proofs.engine.run_over_named.Goals as goal
 

@@ -1,21 +1,26 @@
 use Rattle.std.proofs.Common.{refl}
-use Rattle.self_test.proofs.Conversing.{lost_groups, lost_pairs, lost_words}
+use Rattle.self_test.specs.declared.summary.Summary.{Summary}
+use Rattle.self_test.proofs.Conversing.{checked_so, lost_groups, lost_pairs, lost_words}
 use Rattle.self_test.proofs.Leading.{leads_then}
 use Rattle.self_test.proofs.running.count_all.Goals as goal
 
 pub returns-in-Ok-chunks-clause-sums : goal.returns-in-Ok-chunks-clause-sums
-returns-in-Ok-chunks-clause-sums g c = record {
-  many = refl;
-  state = c.count-in-Ok-count.new.client.session;
-  between = c.count-in-Ok-count.new.tables;
-  counts = (
-    c.count.new.client.session,
-    c.count.new.tables,
-    c.in-Ok.ensures.counts,
-    (c.count-in-Ok.new.client.session, c.count-in-Ok.new.tables, c.in-Ok-count.ensures.counts, c.in-Ok-count-2.ensures.counts),
-  );
-  sees = c.in-Ok-chunks.ensures.chunks;
-}
+returns-in-Ok-chunks-clause-sums g c =
+    let summary : Summary = record { documents = c.args.documents; words = c.in-Ok.words; pairs = c.in-Ok-count.pairs; groups = c.in-Ok-count-2.groups; chunks = c.in-Ok-chunks.chunks } in
+    checked_so g.T.Catalog.confs g.T.TableStore.words c.args.documents c.checked.result summary c.args.client.now.session c.args.tables.now c.chunks.new.tables
+    (record {
+      many = refl;
+      state = c.count-in-Ok-count.new.client.session;
+      between = c.count-in-Ok-count.new.tables;
+      counts = (
+        c.count.new.client.session,
+        c.count.new.tables,
+        c.in-Ok.ensures.counts,
+        (c.count-in-Ok.new.client.session, c.count-in-Ok.new.tables, c.in-Ok-count.ensures.counts, c.in-Ok-count-2.ensures.counts),
+      );
+      sees = c.in-Ok-chunks.ensures.chunks;
+    })
+    c.checked.ensures
 
 pub returns-in-Ok-chunks-clause-leads : goal.returns-in-Ok-chunks-clause-leads
 returns-in-Ok-chunks-clause-leads g c =
@@ -48,14 +53,14 @@ returns-in-Err-count-2-clause-leads g c =
 
 pub returns-in-Err-count-2-clause-sums : goal.returns-in-Err-count-2-clause-sums
 returns-in-Err-count-2-clause-sums g c =
-    lost_groups g.T.Catalog.confs g.T.TableStore.words c.in-Err-count-2.fault c.in-Ok.words c.in-Ok-count.pairs c.args.client.now.session c.count-in-Ok.new.client.session
+    lost_groups g.T.Catalog.confs g.T.TableStore.words c.args.documents c.in-Err-count-2.fault c.in-Ok.words c.in-Ok-count.pairs c.args.client.now.session c.count-in-Ok.new.client.session
     c.args.tables.now c.count-in-Ok.new.tables c.count-in-Ok-count.new.tables
     (c.count.new.client.session, c.count.new.tables, c.in-Ok.ensures.counts, c.in-Ok-count.ensures.counts) c.in-Err-count-2.ensures.counts
 
 pub returns-in-Err-count-clause-sums : goal.returns-in-Err-count-clause-sums
 returns-in-Err-count-clause-sums g c =
-    lost_pairs g.T.Catalog.confs g.T.TableStore.words c.in-Err-count.fault c.in-Ok.words c.args.client.now.session c.count.new.client.session c.args.tables.now c.count.new.tables c.count-in-Ok.new.tables
+    lost_pairs g.T.Catalog.confs g.T.TableStore.words c.args.documents c.in-Err-count.fault c.in-Ok.words c.args.client.now.session c.count.new.client.session c.args.tables.now c.count.new.tables c.count-in-Ok.new.tables
     c.in-Ok.ensures.counts c.in-Err-count.ensures.counts
 
 pub returns-in-Err-clause-sums : goal.returns-in-Err-clause-sums
-returns-in-Err-clause-sums g c = lost_words g.T.Catalog.confs g.T.TableStore.words c.in-Err.fault c.args.client.now.session c.args.tables.now c.count.new.tables c.in-Err.ensures.counts
+returns-in-Err-clause-sums g c = lost_words g.T.Catalog.confs g.T.TableStore.words c.args.documents c.in-Err.fault c.args.client.now.session c.args.tables.now c.count.new.tables c.in-Err.ensures.counts
