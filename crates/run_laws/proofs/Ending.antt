@@ -216,9 +216,9 @@ module _ {S D K : Type 0} (store : DiskWords S) (door : DoorWords D K) (link : L
   selftest_says number docs (Damaged index file place kind) says = well_in (Some (selftest number docs)) (Damaged index file place kind) (lines_well (Damaged index file place kind) says.0 says.2)
 
   works_well : (mode : Option Mode) (status : Status) → Works store door link mode indexes status deeds → EndsWell mode status
-  works_well (Some (session file)) status works = well_in _ status (served_well _ _ status works)
-  works_well (Some (serve file listen workers sessions)) status works = well_in _ status (served_well _ _ status works)
-  works_well (Some (check file)) status works = well_in _ status (checked_well _ status works)
+  works_well (Some (session file)) status works = well_in (Some (session file)) status (served_well _ _ status works)
+  works_well (Some (serve file listen workers sessions)) status works = well_in (Some (serve file listen workers sessions)) status (served_well _ _ status works)
+  works_well (Some (check file)) status works = well_in (Some (check file)) status (checked_well _ status works)
   works_well (Some (selftest number docs)) status works = selftest_says number docs status works.says
   works_well None status works = absurd works
 

@@ -1,15 +1,11 @@
 -- What a text that is told comes to: what has to be replied, another thing, or want of memory.
-use Rattle.std.proofs.Common.{◌≡◌, ◌≢◌, ◌≤◌, ◌<◌, ◌⊎◌, ℕ, ◌+◌, ◌-◌, List, [], ◌∷◌, ◌++◌, Bool, true, false, length, refl, sym, ap, ◌∙◌, subst, arith, inl, inr, append-nil}
-use Rattle.mysql_wire.specs.Packets.{max_payload, packet, packets_from}
-use Rattle.mysql_wire.specs.LengthEncoded.{lenenc}
+use Rattle.std.proofs.Common.{◌≡◌, ◌≢◌, ◌<◌, ◌⊎◌, ℕ, ◌+◌, ◌-◌, List, [], ◌∷◌, true, false, length, refl, sym, ap, ◌∙◌, subst, arith, inl, inr}
+use Rattle.mysql_wire.specs.Packets.{max_payload, packets_from}
 use Rattle.mysql_wire.specs.Replies.{ok_packet}
 use Rattle.index_conf.specs.declared.conf.IndexConf.{IndexConf}
 use Rattle.ql_tree.specs.declared.statement.Statement.{Statement}
 use Rattle.ql_tree.specs.declared.statement.Statement.TheVariants as statements
-use Rattle.reply_rows.specs.ResultSets.{sets_payloads}
-use Rattle.reply_rows.specs.declared.result_set.ResultSet.{ResultSet}
-use Rattle.ql_refusals.specs.Refusals.{Refused, no_memory}
-use Rattle.ql_answers.specs.Replies.{Fails, Reply, is_refusal, payloads}
+use Rattle.ql_answers.specs.Replies.{is_refusal, payloads}
 use Rattle.ql_answers.specs.States.{status_of}
 use Rattle.ql_answers.specs.declared.state.State.{State}
 use Rattle.ql_session.specs.Events.{StoreWords}
@@ -21,7 +17,7 @@ use Rattle.self_test.specs.declared.fault.Astray.{Astray}
 use Rattle.self_test.specs.declared.summary.Count.{Count}
 use Rattle.self_test.specs.steps.Replies.{is_err, stops}
 use Rattle.self_test.proofs.Codes.{not_stop, ok_is_read, refusal_errs, set_is_no_err, stop_unread}
-use Rattle.self_test.proofs.Finding.{Answered, HasFound, count_answered, found, one_set, refused}
+use Rattle.self_test.proofs.Finding.{Answered, count_answered, found, one_set, refused}
 use Rattle.self_test.proofs.Replied.{Came, NotBoth, OneList, came, replied, unread}
 
 module _ {D F : Type 0} (confs : D → List IndexConf) (words : StoreWords D F) (one_list : OneList) (not_both : NotBoth)

@@ -1,5 +1,5 @@
 -- Which refusal a reply's bytes are.
-use Rattle.std.proofs.Common.{◌≡◌, ◌≢◌, ℕ, ◌+◌, ◌*◌, List, [], ◌∷◌, ◌++◌, Bool, true, false, eqb, ◌||◌, length, map, refl, sym, ap, ◌∙◌, subst, arith}
+use Rattle.std.proofs.Common.{◌≡◌, ℕ, ◌+◌, List, [], ◌∷◌, ◌++◌, Bool, true, false, ◌||◌, length, map, refl, ap, ◌∙◌}
 use Rattle.std.proofs.lemmas.Bool.{eqb-true}
 use Rattle.mysql_wire.specs.LengthEncoded.{lenenc}
 use Rattle.mysql_wire.specs.Packets.{packet, packets_from}
@@ -8,7 +8,7 @@ use Rattle.mysql_wire.specs.Rows.{column_payload, row_payload}
 use Rattle.reply_rows.specs.ResultSets.{sets_payloads}
 use Rattle.reply_rows.specs.declared.result_set.ResultSet.{ResultSet}
 use Rattle.ql_refusals.specs.Refusals.{Refused, no_memory, state_of}
-use Rattle.ql_answers.specs.Replies.{Done, Fails, Finds, Reply, Shows, is_refusal, payloads}
+use Rattle.ql_answers.specs.Replies.{Done, Fails, Finds, Reply, Shows, payloads}
 use Rattle.ql_answers.specs.States.{status_of}
 use Rattle.ql_answers.specs.declared.state.State.{State}
 use Rattle.self_test.specs.Asking.{bytes_of, has_code, is_stop}

@@ -1,7 +1,6 @@
-use Rattle.std.proofs.Common.{◌≡◌, ◌≢◌, ◌≤◌, ◌<◌, ◌⊎◌, ℕ, ◌-◌, List, Bool, true, false, length, arith, ap, sym, ◌∙◌, inl, inr, rules, subst}
-use Rattle.mysql_wire.specs.Packets.{max_payload}
+use Rattle.std.proofs.Common.{◌≡◌, ◌≢◌, ◌-◌, false, rules}
 use Rattle.mysql_wire.specs.Replies.{ok_packet}
-use Rattle.self_test.specs.steps.Replies.{is_err, is_err_of, stops}
+use Rattle.self_test.specs.steps.Replies.{stops}
 use Rattle.self_test.proofs.Answering.{astray, done}
 use Rattle.self_test.proofs.asking.Client.tell.Goals as goal
 
